@@ -1,0 +1,10 @@
+pub mod Numbers
+pub mod Layout
+pub mod Pages
+pub mod Tiling
+pub mod Tables
+pub mod Words
+pub mod Book
+pub mod Run
+pub mod Text
+pub mod Sets

@@ -1,0 +1,25 @@
+//! The definitions that the proofs of the whole project speak of: formats as data, pages, blocks, table
+//! positions, the words of a space, the book of a range and how each call answers by it, the run of a
+//! script and the text of its replies.
+//!
+//! It stands on no other crate. The code here is plain data, since the definitions name it; the
+//! definitions are in `specs/`. What comes from a manual stands with the walks and the formats. The crates
+//! above promise to meet the definitions; this one promises the law that it has as a function.
+#![tactic(auto)]
+
+ghost use Rattle.pt_model.specs.Tiling.{HasOneTiling};
+
+mod block;
+mod command;
+mod position;
+mod reply;
+
+pub use block::{Block, Prot};
+pub use command::{Ask, AskWhat, Command, Name, What};
+pub use position::Position;
+pub use reply::{Answer, LookupAnswer, MapAnswer, Reply};
+
+/// There is one tiling of a range of pages, and the list `tiling` is it.
+pub fn has_one_tiling()
+    ensures { HasOneTiling }
+{}
