@@ -1,0 +1,13 @@
+pub mod Steps
+pub mod Productions
+pub mod WordLemmas
+pub mod ForkLemmas
+pub mod DraftLemmas
+pub mod ParseLemmas
+pub mod OneText
+pub mod Refused
+pub mod OneRefusal
+pub mod PrintLemmas
+pub mod BranchLemmas
+pub mod FirstLemmas
+pub mod LegalLemmas

@@ -1,0 +1,10 @@
+pub mod Lines
+pub mod Grammar
+pub mod Text
+pub mod Progress
+pub mod Numbered
+pub mod Draft
+pub mod Scripts
+pub mod Branches
+pub mod First
+pub mod States
