@@ -1,0 +1,58 @@
+-- The manual's step and walk, over the words that a format writes.
+use Rattle.std.specs.Prelude.{◌≡◌, ℕ, suc, ◌+◌, ◌-◌, ◌*◌, ◌/◌, ◌%◌, ◌^◌, ◌<◌, ◌≤◌, List, Some, None}
+use Rattle.pt_model.specs.declared.block.Prot.{Prot}
+use Rattle.pt_model.specs.Layout.{Layout, Found, nothing, page, table, alien, Reached, nowhere, at_byte, strange, pages_of_entry, pages_of_table}
+use Rattle.pt_model.specs.Pages.{page_at}
+use Rattle.pt_model.specs.Words.{IsSpace, frames_in, entry, root_frame, root_level, frame_address}
+use Rattle.pt_format.specs.Words.{MayBeLeaf, IsTableLevel, IsTableAddress, IsLeaf, IsUnder}
+
+-- the words that a format writes mean to the manual's step what they say
+pub record StepsAgree (f : Layout) : Type 0 where
+  pub empty : (level here : ℕ) → level < f.levels → f.step level 0 here ≡ nothing
+  pub pointer : (level address here : ℕ) → IsTableLevel f level → IsTableAddress f address →
+      f.step level (f.pointer level address) here ≡ table address
+  pub leaf : (level log2 out part first here : ℕ) (prot : Prot) → MayBeLeaf f level log2 out prot part →
+      IsUnder f level log2 first part here →
+      f.step level (f.leaf level log2 out prot part) here ≡ page (out + (here - first)) prot
+
+-- a word that reads as empty, as a leaf, or as the pointer to one of n frames
+pub data IsRead (f : Layout) (n level word : ℕ) : Type 0 where
+  an_empty : word ≡ 0 → IsRead f n level word
+  a_leaf : (log2 : ℕ) (prot : Prot) → IsLeaf f level word log2 prot → IsRead f n level word
+  a_table : (frame : ℕ) → IsTableLevel f level → frame < n → IsTableAddress f (frame_address f frame) →
+      word ≡ f.pointer level (frame_address f frame) → IsRead f n level word
+
+-- the entry at which the walk to a page looks in a table
+abbrev pub entry_for : Layout → List ℕ → (frame level here : ℕ) → ℕ
+entry_for f words frame level here = entry f words frame (here / pages_of_entry f level % 2 ^ f.index)
+
+-- where a step leads: `next` is the walk from a frame one level down
+abbrev pub follow : Layout → (address : ℕ) → (ℕ → Reached) → Found → Reached
+follow f address next nothing = nowhere
+follow f address next (page out prot) = at_byte (out * 2 ^ f.granule + address % 2 ^ f.granule) prot
+follow f address next (table t) = next ((t - 2 ^ 32) / 2 ^ f.granule)
+follow f address next alien = strange
+
+-- the root names one of the frames, and a level that a root can have
+pub record IsRooted (f : Layout) (words : List ℕ) : Type 0 where
+  pub space : IsSpace f words
+  pub a_frame : root_frame words < frames_in f words
+  pub high : f.start ≤ root_level words + 1
+  pub low : root_level words < f.levels
+
+-- the walk is its steps
+pub record IsWalk (f : Layout) : Type 0 where
+  -- the walk from a table that is so many levels high
+  pub from : List ℕ → (address tables frame : ℕ) → Reached
+  pub no_page : (words : List ℕ) (address : ℕ) → IsRooted f words → address < 2 ^ 64 →
+      page_at f address ≡ None → f.walk words address ≡ nowhere
+  pub beyond : (words : List ℕ) (address here : ℕ) → IsRooted f words → address < 2 ^ 64 →
+      page_at f address ≡ Some here → pages_of_table f (root_level words) ≤ here → f.walk words address ≡ nowhere
+  pub begins : (words : List ℕ) (address here : ℕ) → IsRooted f words → address < 2 ^ 64 →
+      page_at f address ≡ Some here → here < pages_of_table f (root_level words) →
+      f.walk words address ≡ from words address (root_level words + 1) (root_frame words)
+  pub goes : (words : List ℕ) (address here level frame : ℕ) → IsRooted f words → address < 2 ^ 64 →
+      page_at f address ≡ Some here → level < f.levels → frame < frames_in f words →
+      IsRead f (frames_in f words) level (entry_for f words frame level here) →
+      from words address (suc level) frame
+      ≡ follow f address (from words address level) (f.step level (entry_for f words frame level here) here)
