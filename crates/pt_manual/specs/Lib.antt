@@ -1,0 +1,8 @@
+pub mod SpaceWords
+pub mod EntryBits
+pub mod Granting
+pub mod NineBitWalk
+pub mod VtdWalk
+pub mod X86Walk
+pub mod OverPages
+pub mod NineBitFormat

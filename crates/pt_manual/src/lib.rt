@@ -1,0 +1,27 @@
+//! The walks of the manuals: what a device finds at an input address, over the words of a space.
+//!
+//! Each is written from its manual alone, in the manual's own levels and fields, and knows nothing of a
+//! format. `walk_vtdss` is that of VT-d second-stage tables (Intel Virtualization Technology for Directed
+//! I/O, Architecture Specification, second-stage translation), `walk_x86` that of x86-64 tables (Intel 64
+//! and IA-32 Architectures Software Developer's Manual, volume 3, paging). Both take nine index bits at
+//! each level, AND the permissions along the way, and differ in what an entry says.
+//!
+//! The words are a root, a tag for each frame, and the frames. An entry that is present and of no form of
+//! the profile is alien, at the level of its table; so is a pointer past the frames, and a bad root.
+//! Addresses are in bytes. No call takes memory.
+//!
+//! It stands on the permissions and definitions of formats, and promises that each walk is its definition.
+#![tactic(auto)]
+
+mod bits;
+mod space;
+mod step;
+mod vtd;
+mod walk;
+mod walked;
+mod x86;
+
+pub use step::Step;
+pub use vtd::walk_vtdss;
+pub use walked::Walked;
+pub use x86::walk_x86;

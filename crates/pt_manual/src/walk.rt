@@ -1,0 +1,77 @@
+//! The walk of tables with nine index bits at each level.
+
+ghost use Rattle.std.specs.Prelude.{◌≡◌, ◌+◌, ◌*◌, ◌≤◌, length};
+ghost use Rattle.pt_manual.specs.SpaceWords.{IsSpaceLength};
+ghost use Rattle.pt_manual.specs.Granting.{allowed};
+ghost use Rattle.pt_manual.specs.NineBitWalk as NineBitWalk;
+ghost use Rattle.pt_manual.specs.NineBitWalk.{page_as};
+
+use crate::Walked;
+use crate::space::{entry_at, frame_at, frames_of};
+use crate::step::{Entries, Step};
+use pt_format::Prot;
+
+/// A page as the permissions along a walk allow it.
+fn page_for(level: u32, out: u64, read: bool, write: bool) -> Walked
+    ensures { result ≡ page_as level out (allowed read write) }
+{
+    match (read, write) {
+        (true, true) => Walked::Page {
+            out,
+            prot: Prot::ReadWrite,
+        },
+        (true, false) => Walked::Page {
+            out,
+            prot: Prot::Read,
+        },
+        (false, true) => Walked::Alien { level },
+        (false, false) => Walked::None,
+    }
+}
+
+/// The walk of an input address of `input` bits.
+pub fn walk_by<E: Entries>(words: &[u64], levels: u32, input: u32, address: u64) -> Walked
+    requires space { IsSpaceLength 9 (length words.now) }
+    requires low { 3 ≤ levels }
+    requires high { levels ≤ 5 }
+    requires bits { input ≤ 12 + 9 * levels }
+    ensures { result ≡ NineBitWalk.walk_by E.step_at words.now levels input address }
+{
+    let mut frame = words[0] / 8;
+    if frame >= frames_of(words) || words[0] % 8 + 1 != levels as u64 {
+        return Walked::Alien { level: levels };
+    }
+    if address >> input != 0 {
+        return Walked::None;
+    }
+    let mut read = true;
+    let mut write = true;
+    for level in (0..levels).rev() {
+        let number = address >> (12 + 9 * level) & 511;
+        match E::read_entry(level + 1, entry_at(words, frame, number)) {
+            Step::NotPresent => return Walked::None,
+            Step::Reserved => return Walked::Alien { level: level + 1 },
+            Step::Page {
+                address: page,
+                read: r,
+                write: w,
+            } => {
+                let out = page + address % (1 << (12 + 9 * level));
+                return page_for(level + 1, out, read & r, write & w);
+            }
+            Step::Next {
+                address: table,
+                read: r,
+                write: w,
+            } => {
+                let Some(next) = frame_at(words, table) else {
+                    return Walked::Alien { level: level + 1 };
+                };
+                frame = next;
+                read = read & r;
+                write = write & w;
+            }
+        }
+    }
+    Walked::Alien { level: 0 }
+}
