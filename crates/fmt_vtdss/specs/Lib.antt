@@ -1,0 +1,2 @@
+pub mod VtdWords
+pub mod VtdLaws
