@@ -1,0 +1,2 @@
+pub mod X86Words
+pub mod X86Laws
