@@ -1,0 +1,8 @@
+pub mod TileFacts
+pub mod Least
+pub mod Begun
+pub mod Counts
+pub mod Uncovered
+pub mod Tops
+pub mod Levels
+pub mod Needed

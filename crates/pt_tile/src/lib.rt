@@ -1,0 +1,14 @@
+//! The tiling of a range by the blocks of a format, and the number of tables that it needs.
+//!
+//! It stands on numbers and on the trait of formats. A tiling is exact: there is one for each range, and
+//! at each place it has the greatest legal block that ends in the range. Ranges are in pages. Nothing
+//! here takes memory.
+#![tactic(auto)]
+
+mod sizes;
+mod tables;
+mod tiles;
+
+pub use sizes::all_sizes;
+pub use tables::tables_needed;
+pub use tiles::Tiles;
