@@ -1,0 +1,168 @@
+//! The book of a space as a list of blocks.
+
+ghost use Rattle.std.specs.Prelude.{◌≡◌, ℕ, ◌+◌, ◌-◌, ◌*◌, ◌/◌, ◌%◌, ◌^◌, ◌<◌, ◌≤◌, None, IsTrue, OnOk, OnErr, ◌&&◌, nat_lt, nat_le, option_map};
+ghost use Rattle.pt_model.specs.Layout.{IsLegalBlock, output_pages};
+ghost use Rattle.pt_model.specs.Pages as pages;
+ghost use Rattle.pt_model.specs.Tiling.{tiling};
+ghost use Rattle.pt_model.specs.Book as book;
+ghost use Rattle.pt_model.specs.Book.{new_book, map_refusal, translation};
+ghost use Rattle.pt_book.specs.Refusals.{refusal_of};
+
+use crate::lists::{add_blocks, first_met, tiled};
+use crate::refusal::Refusal;
+use pt_format::{Block, Format, Prot, byte_of, is_whole, page_of, page_under, range_of};
+use pt_num::{Memory, Span};
+use std::alloc::Global;
+use std::marker::{Model, PhantomData};
+
+/// The book of a space that is mapped by calls. Contracts see it as a book with no tables.
+#[derive(Drop)]
+pub struct ListBook<F: Format> {
+    first: u64,
+    count: u64,
+    blocks: Vec<Block>,
+    alloc: Global,
+    format: PhantomData<F>,
+}
+
+impl<F: Format> Model for ListBook<F> {
+    ghost use Rattle.std.specs.Prelude.{◌+◌, ◌≤◌, All, []};
+    ghost use Rattle.pt_model.specs.Layout.{input_pages, IsLegalBlock};
+    ghost use Rattle.pt_model.specs.Tables.{starting_top};
+    ghost use Rattle.pt_model.specs.Book.{Book};
+
+    ghost Value = { Book };
+
+    ghost view = { λ b. record {
+      first = b.first;
+      count = b.count;
+      blocks = b.blocks.items;
+      tables = [];
+      top = starting_top F.layout.levels;
+    } };
+
+    ghost invariant = { λ b. (b.first + b.count ≤ input_pages F.layout) × All (IsLegalBlock F.layout) b.blocks.items };
+}
+
+impl<F: Format> ListBook<F> {
+    /// The book of the whole space of a format, which maps nothing.
+    pub fn new(alloc: Global) -> ListBook<F>
+        ensures { result ≡ new_book F.layout F.layout.levels }
+    {
+        ListBook {
+            first: 0,
+            count: 1 << (F::INPUT - F::GRANULE),
+            blocks: Vec::new(alloc),
+            alloc,
+            format: PhantomData,
+        }
+    }
+
+    /// Why a map of `len` bytes from input address `va` onto those from output address `pa` is refused,
+    /// other than for want of frames; None where it isn't.
+    ///
+    /// `Misaligned` where one of the three isn't of whole pages or the length is 0, `OutsideLease` where a
+    /// byte of the range has no page of the space, `OutputRange` where the outputs end past the format's
+    /// output addresses, `Occupied` with the address of the lowest page of the range that is mapped. The
+    /// first of these that holds is the answer.
+    pub fn refusal(&self, va: u64, pa: u64, len: u64) -> Option<Refusal>
+        ensures { option_map refusal_of result ≡ map_refusal F.layout self.now va pa len }
+    {
+        if !are_whole::<F>(va, pa, len) {
+            return Some(Refusal::Misaligned);
+        }
+        let Some(span) = range_of::<F>(va, len) else {
+            return Some(Refusal::OutsideLease)
+        };
+        let last = span.first + span.count;
+        if !is_inside(self.first, self.count, span.first, last) {
+            return Some(Refusal::OutsideLease);
+        }
+        if is_past_output::<F>(pa, len) {
+            return Some(Refusal::OutputRange);
+        }
+        let block = first_met(&self.blocks, span.first, last)?;
+        Some(Refusal::Occupied {
+            address: byte_of::<F>(span.first.max(block.first)),
+        })
+    }
+
+    /// Maps `len` bytes from input address `va` onto those from output address `pa`, by the blocks of the
+    /// tiling. `Memory` where there is none for the list, and then nothing changes.
+    pub fn map(&mut self, va: u64, pa: u64, len: u64, prot: Prot) -> Result<(), Memory>
+        requires allowed { map_refusal F.layout self.old va pa len ≡ None }
+        ensures blocks { OnOk result (self.new.blocks ≡ book.add_blocks self.old.blocks (tiling F.layout prot (pages.page_under F.layout va) (pa / 2 ^ F.layout.granule) (len / 2 ^ F.layout.granule))) }
+        ensures first { self.new.first ≡ self.old.first }
+        ensures count { self.new.count ≡ self.old.count }
+        ensures same { OnErr result (self.new ≡ self.old) }
+    {
+        let span = Span {
+            first: page_under::<F>(va),
+            count: len >> F::GRANULE,
+        };
+        let new = tiled::<F>(self.alloc, span, pa >> F::GRANULE, prot)?;
+        self.blocks = add_blocks(self.alloc, &self.blocks, new)?;
+        Ok(())
+    }
+
+    /// Whether an input address has no page of the space.
+    pub fn is_outside(&self, address: u64) -> bool
+        ensures { result ≡ book.is_outside F.layout self.now address }
+    {
+        match page_of::<F>(address) {
+            None => true,
+            Some(page) => !is_inside(self.first, self.count, page, page + 1),
+        }
+    }
+
+    /// The output address of the byte at an input address, and what is permitted there; None where its
+    /// page isn't mapped. Addresses are in bytes.
+    pub fn lookup(&self, address: u64) -> Option<(u64, Prot)>
+        ensures { result ≡ translation F.layout self.now address }
+    {
+        let page = page_under::<F>(address);
+        let block = first_met(&self.blocks, page, page + 1)?;
+        let out = output_of::<F>(block, page);
+        Some((byte_in::<F>(out, address), block.prot))
+    }
+}
+
+/// Whether two addresses and a length are of whole pages, and the length isn't 0.
+fn are_whole<F: Format>(va: u64, pa: u64, len: u64) -> bool
+    ensures { result ≡ ((pages.is_whole F.layout va && pages.is_whole F.layout pa) && (pages.is_whole F.layout len && nat_lt 0 len)) }
+{
+    is_whole::<F>(va) && is_whole::<F>(pa) && is_whole::<F>(len) && len > 0
+}
+
+/// Whether the bytes from an output address end past the output addresses of the format.
+fn is_past_output<F: Format>(pa: u64, len: u64) -> bool
+    ensures { result ≡ nat_lt (2 ^ F.layout.output) (pa + len) }
+{
+    u128::from(pa) + u128::from(len) > 1 << F::OUTPUT
+}
+
+/// Whether the pages from `from` to before `last` are of the `count` pages from page `first`.
+fn is_inside(first: u64, count: u64, from: u64, last: u64) -> bool
+    requires { first + count < 2 ^ 64 }
+    ensures { result ≡ (nat_le first from && nat_le last (first + count)) }
+{
+    first <= from && last <= first + count
+}
+
+/// The output page of a page of a block.
+fn output_of<F: Format>(block: Block, page: u64) -> u64
+    requires legal { IsLegalBlock F.layout block }
+    requires of { IsTrue (book.meets page (page + 1) block) }
+    ensures page { result ≡ block.out + (page - block.first) }
+    ensures within { result < output_pages F.layout }
+{
+    block.out + (page - block.first)
+}
+
+/// The output address on a page at which an input address lies in its own page.
+fn byte_in<F: Format>(out: u64, address: u64) -> u64
+    requires { out < output_pages F.layout }
+    ensures { result ≡ out * 2 ^ F.layout.granule + address % 2 ^ F.layout.granule }
+{
+    (out << F::GRANULE) + address % (1 << F::GRANULE)
+}

@@ -1,0 +1,96 @@
+//! Lists of blocks, scanned from end to end.
+
+ghost use Rattle.std.specs.Prelude.{◌≡◌, ℕ, ◌+◌, ◌^◌, ◌<◌, ◌≤◌, ◌≢◌, ◌++◌, All, find, filter, nat_lt, not, IsTrue, IfOk, OnOk};
+ghost use Rattle.pt_model.specs.Layout.{end_of, input_pages, output_pages};
+ghost use Rattle.pt_model.specs.Book as book;
+ghost use Rattle.pt_model.specs.Tiling.{tiling};
+
+use pt_format::{Block, Format, Prot};
+use pt_num::{Memory, Span};
+use pt_tile::Tiles;
+use std::alloc::Global;
+
+/// Whether a block meets the pages from `first` to before `last`.
+fn meets(block: Block, first: u64, last: u64) -> bool
+    requires { end_of block < 2 ^ 64 }
+    ensures { result ≡ book.meets first last block }
+{
+    block.first < last && first < block.first + (1 << block.log2)
+}
+
+/// The first block of a list that meets the pages from `first` to before `last`.
+pub(crate) fn first_met(blocks: &[Block], first: u64, last: u64) -> Option<Block>
+    requires { All (λ b. end_of b < 2 ^ 64) blocks.now }
+    ensures { result ≡ find (book.meets first last) blocks.now }
+{
+    for block in blocks {
+        if meets(*block, first, last) {
+            return Some(*block);
+        }
+    }
+    None
+}
+
+/// Appends the blocks of a list that begin before a page.
+fn push_before(out: &mut Vec<Block>, blocks: &[Block], page: u64) -> Result<(), Memory>
+    ensures { OnOk result (out.new.items ≡ out.old.items ++ filter (λ n. nat_lt n.first page) blocks.now) }
+{
+    for block in blocks {
+        if block.first < page {
+            out.push(*block)?;
+        }
+    }
+    Ok(())
+}
+
+/// The blocks of a list that don't begin before a page.
+fn not_before(alloc: Global, blocks: &[Block], page: u64) -> Result<Vec<Block>, Memory>
+    ensures { IfOk result (λ rest. rest.items ≡ filter (λ n. not (nat_lt n.first page)) blocks.now) }
+{
+    let mut rest = Vec::new(alloc);
+    for block in blocks {
+        if block.first >= page {
+            rest.push(*block)?;
+        }
+    }
+    Ok(rest)
+}
+
+/// The blocks of two lists, the new ones put among the old in the order of first pages.
+pub(crate) fn add_blocks(
+    alloc: Global,
+    old: &[Block],
+    new: Vec<Block>,
+) -> Result<Vec<Block>, Memory>
+    ensures { IfOk result (λ both. both.items ≡ book.add_blocks old.now new.items) }
+{
+    let mut both = Vec::new(alloc);
+    let mut left = new;
+    for block in old {
+        push_before(&mut both, &left, block.first)?;
+        both.push(*block)?;
+        left = not_before(alloc, &left, block.first)?;
+    }
+    both.extend_from_slice(&left)?;
+    Ok(both)
+}
+
+/// The blocks of the tiling of a span onto the output pages from `out`.
+pub(crate) fn tiled<F: Format>(
+    alloc: Global,
+    span: Span,
+    out: u64,
+    prot: Prot,
+) -> Result<Vec<Block>, Memory>
+    requires some { span.count ≢ 0 }
+    requires stated { IsTrue (F.layout.states prot) }
+    requires in_input { span.first + span.count ≤ input_pages F.layout }
+    requires in_output { out + span.count ≤ output_pages F.layout }
+    ensures { IfOk result (λ blocks. blocks.items ≡ tiling F.layout prot span.first out span.count) }
+{
+    let mut blocks = Vec::new(alloc);
+    for block in Tiles::<F>::new(span, out, prot) {
+        blocks.push(block)?;
+    }
+    Ok(blocks)
+}
