@@ -1,0 +1,161 @@
+//! The trait of holders.
+
+ghost use Rattle.std.specs.Prelude.{◌≡◌, ℕ, ◌+◌, ◌<◌, ◌≤◌, List, [], length, None};
+ghost use Rattle.pt_model.specs.declared.position.Position.{Position};
+ghost use Rattle.pt_model.specs.Tables.{IsPosition};
+ghost use Rattle.pt_view.specs.declared.view.View.{View};
+ghost use Rattle.pt_model.specs.Layout.{input_pages};
+ghost use Rattle.pt_model.specs.declared.block.Block.{Block};
+ghost use Rattle.pt_model.specs.Book.{IsLawful};
+ghost use Rattle.pt_view.specs.Views.{Aside, IsAtRest, book_of};
+ghost use Rattle.pt_view.specs.Calls.{MeetsEntry, MayInstall, MayWrite, Rooted, Went, IsPlaced, IsUnplaced, IsInstalled, IsWritten, IsTaken, IsPrepared, HasEveryFrame, held_count, links, left};
+
+use pt_format::Format;
+use pt_num::Span;
+
+/// What a load of an entry found.
+#[derive(Clone, Copy, Debug, PartialEq, Eq)]
+pub enum Seen {
+    /// Zero.
+    Empty,
+    /// The word of an own block.
+    Leaf(u64),
+    /// A pointer: the path went into the table that it names.
+    Entered,
+}
+
+/// Whether a prepared frame was linked.
+#[derive(Clone, Copy, Debug, PartialEq, Eq)]
+pub enum Won {
+    /// It was.
+    Yes,
+    /// Another table was linked there before.
+    Met,
+}
+
+/// A holder of a range of pages of a space: it alone changes what is mapped there, whatever other
+/// holders do to the rest between its steps.
+///
+/// Every call leaves the space that the holder is of, and what it has set aside, as they were. Frames
+/// are numbers below `frames()`, levels count from 0, spans are in pages.
+pub trait Holder<F: Format> {
+    /// Names the space that the holder is of.
+    type Space;
+
+    ghost space: { Self → Self.Space };
+
+    /// What the holder knows.
+    ghost view: { Self → View };
+
+    /// The blocks and linked positions that it has set aside.
+    ghost aside: { Self → Aside };
+
+    /// Whether the histories `taken`, `absent` and `stores` are kept.
+    ghost tells: { Type 0 };
+
+    /// Whether no other live view of its words exists.
+    ghost alone: { Self → Type 0 };
+
+    /// The number of linked positions of its words. Clauses speak of it only where the holder is alone.
+    ghost linked: { Self → ℕ };
+
+    /// Loads the root and goes to its table. Answers the root's level.
+    fn root(&mut self) -> u32
+        requires { (view self.old).path ≡ [] }
+        ensures space { space self.new ≡ space self.old }
+        ensures aside { aside self.new ≡ aside self.old }
+        ensures alone { alone self.old → alone self.new }
+        ensures linked { alone self.old → linked self.new ≡ linked self.old }
+        ensures rooted { Rooted F.layout tells (alone self.old) (view self.old) result (view self.new) };
+
+    /// Loads an entry of the path's last table, and goes into the table that it names, if it does.
+    fn enter(&mut self, number: u32) -> Seen
+        requires { MeetsEntry F.layout (view self.old) number }
+        ensures space { space self.new ≡ space self.old }
+        ensures aside { aside self.new ≡ aside self.old }
+        ensures alone { alone self.old → alone self.new }
+        ensures linked { alone self.old → linked self.new ≡ linked self.old }
+        ensures went { Went F.layout tells (alone self.old) number (view self.old) result (view self.new) };
+
+    /// Leaves the path's last table. Makes no step.
+    fn leave(&mut self)
+        requires { 0 < length (view self.old).path }
+        ensures space { space self.new ≡ space self.old }
+        ensures aside { aside self.new ≡ aside self.old }
+        ensures alone { alone self.old → alone self.new }
+        ensures linked { alone self.old → linked self.new ≡ linked self.old }
+        ensures left { view self.new ≡ left (view self.old) };
+
+    /// Prepares the first frame of the purse for a position.
+    fn place(&mut self, level: u32, base: u64)
+        requires some { 0 < length (view self.old).purse }
+        requires none { (view self.old).prepared ≡ None }
+        requires legal { IsPosition F.layout (record { level = level; base = base }) }
+        ensures space { space self.new ≡ space self.old }
+        ensures aside { aside self.new ≡ aside self.old }
+        ensures alone { alone self.old → alone self.new }
+        ensures linked { alone self.old → linked self.new ≡ linked self.old }
+        ensures placed { IsPlaced tells (view self.old) (record { level = level; base = base }) (view self.new) };
+
+    /// Puts the prepared frame back, as the first of the purse.
+    fn unplace(&mut self)
+        requires { IsPrepared (view self.old) }
+        ensures space { space self.new ≡ space self.old }
+        ensures aside { aside self.new ≡ aside self.old }
+        ensures alone { alone self.old → alone self.new }
+        ensures linked { alone self.old → linked self.new ≡ linked self.old }
+        ensures unplaced { IsUnplaced tells (view self.old) (view self.new) };
+
+    /// Links the prepared frame at an entry of the path's last table, where no other table is linked,
+    /// and goes into the table that is linked there.
+    fn install(&mut self, number: u32) -> Won
+        requires { MayInstall F.layout (view self.old) number }
+        ensures space { space self.new ≡ space self.old }
+        ensures aside { aside self.new ≡ aside self.old }
+        ensures alone { alone self.old → alone self.new }
+        ensures linked { alone self.old → linked self.new ≡ linked self.old + links result }
+        ensures installed { IsInstalled F.layout tells number (view self.old) result (view self.new) };
+
+    /// Writes a word of a block into an entry of the path's last table.
+    fn write(&mut self, number: u32, word: u64)
+        requires { MayWrite F.layout (view self.old) number word }
+        ensures space { space self.new ≡ space self.old }
+        ensures aside { aside self.new ≡ aside self.old }
+        ensures alone { alone self.old → alone self.new }
+        ensures linked { alone self.old → linked self.new ≡ linked self.old }
+        ensures written { IsWritten F.layout tells number word (view self.old) (view self.new) };
+
+    /// Tries to take a frame, which is then the first of the purse. False only where it wasn't free.
+    fn take(&mut self, frame: u32) -> bool
+        requires { frame < (view self.old).frames }
+        ensures space { space self.new ≡ space self.old }
+        ensures aside { aside self.new ≡ aside self.old }
+        ensures alone { alone self.old → alone self.new }
+        ensures linked { alone self.old → linked self.new ≡ linked self.old }
+        ensures taken { IsTaken tells frame (view self.old) result (view self.new) }
+        ensures all { alone self.old → HasEveryFrame (view self.new) → linked self.new + held_count (view self.new) ≡ (view self.new).frames };
+
+    /// The number of frames in the purse.
+    fn purse(&self) -> u32
+        ensures count { result ≡ length (view self.now).purse }
+        ensures few { alone self.now → linked self.now + held_count (view self.now) ≤ (view self.now).frames };
+
+    /// The number of frames of the space.
+    fn frames(&self) -> u32
+        ensures count { result ≡ (view self.now).frames }
+        ensures some { 0 < result };
+
+    /// The number of levels that the space started with.
+    fn levels(&self) -> u32
+        ensures levels { result ≡ (view self.now).levels }
+        ensures legal { (F.layout.start ≤ result) × (result ≤ F.layout.levels) };
+
+    /// The span. At rest the book over it is lawful.
+    fn range(&self) -> Span
+        ensures first { result.first ≡ (view self.now).first }
+        ensures count { result.count ≡ (view self.now).count }
+        ensures some { 0 < result.count }
+        ensures within { result.first + result.count ≤ input_pages F.layout }
+        ensures levels { F.layout.start ≤ (view self.now).levels }
+        ensures lawful { (blocks : List Block) → IsAtRest F.layout (view self.now) blocks → IsLawful F.layout (view self.now).levels (book_of (view self.now) blocks) };
+}
