@@ -1,0 +1,82 @@
+-- Steps on tags are what a holder's calls of take, place and unplace say.
+use Rattle.std.proofs.Common.{◌≡◌, ℕ, Bool, true, false, List, [], ◌∷◌, ◌++◌, refl, ap, sym, ◌∙◌, subst, ⊎_elim}
+use Rattle.std.specs.Prelude.{◌==◌, Some, None, if◌then◌else◌}
+use Rattle.pt_model.specs.declared.position.Position.{Position}
+use Rattle.pt_model.specs.Layout.{Layout}
+use Rattle.pt_view.specs.declared.view.View.{View}
+use Rattle.pt_view.specs.declared.view.Prepared.{Prepared}
+use Rattle.pt_view.specs.Lists.{IsIn, AddsFrame, SameFrames, SamePositions}
+use Rattle.pt_view.specs.Calls.{IsPlaced, IsTaken, IsUnplaced}
+use Rattle.pt_rule.specs.Kinds.{after, place, rest_of, take, unplace}
+use Rattle.pt_rule.proofs.TotalsKept.{in_cases, in_here, in_more}
+
+same_frames : (xs : List ℕ) → SameFrames xs xs
+same_frames xs x = (λ h. h, λ h. h)
+
+same_positions : (ps : List Position) → SamePositions ps ps
+same_positions ps p = (λ h. h, λ h. h)
+
+adds_frame : (xs : List ℕ) (frame : ℕ) → AddsFrame xs (frame ∷ xs) frame
+adds_frame xs frame x = (
+  λ h. in_cases x frame xs h,
+  λ h. ⊎_elim (λ (e : x ≡ frame). subst (IsIn (frame ∷ xs)) (sym e) (in_here frame xs)) (λ (old : IsIn xs x). in_more x frame xs old) h,
+)
+
+module _ (tells : Type 0) (v : View) where
+  taken_by : (frame : ℕ) (won : Bool) →
+      IsTaken tells frame v won (if won then record v { purse = frame ∷ v.purse; busy = frame ∷ v.busy } else record v { busy = frame ∷ v.busy; taken = v.taken ++ frame ∷ [] })
+  taken_by frame true = record {
+    range = record { frames = refl; levels = refl; first = refl; count = refl };
+    book = record { pieces = refl; tables = refl; top = refl };
+    path = refl;
+    prepared = refl;
+    end = refl;
+    takes = (refl, λ told. refl);
+    busy = adds_frame v.busy frame;
+    known = same_positions v.known;
+    told = λ told. (refl, refl);
+  }
+  taken_by frame false = record {
+    range = record { frames = refl; levels = refl; first = refl; count = refl };
+    book = record { pieces = refl; tables = refl; top = refl };
+    path = refl;
+    prepared = refl;
+    end = refl;
+    takes = (refl, λ told. refl);
+    busy = adds_frame v.busy frame;
+    known = same_positions v.known;
+    told = λ told. (refl, refl);
+  }
+
+  -- a take is won where it found the frame free
+  pub taken_is : (f : Layout) (frame found : ℕ) → IsTaken tells frame v (found == 0) (after f (take frame) found v)
+  taken_is f frame found = taken_by frame (found == 0)
+
+  pub placed_is : (f : Layout) (frame found : ℕ) (p : Position) (rest : List ℕ) → v.purse ≡ frame ∷ rest → IsPlaced tells v p (after f (place frame p) found v)
+  placed_is f frame found p rest e = record {
+    range = record { frames = refl; levels = refl; first = refl; count = refl };
+    book = record { pieces = refl; tables = refl; top = refl };
+    path = refl;
+    purse = (frame, e ∙ ap (λ (xs : List ℕ). frame ∷ xs) (sym (ap rest_of e)), refl);
+    end = refl;
+    busy = same_frames v.busy;
+    known = same_positions v.known;
+    told = λ told. record { taken = refl; absent = refl; stores = refl };
+  }
+
+  pub unplaced_is : (f : Layout) (frame found : ℕ) (p : Position) → v.prepared ≡ Some (record { frame = frame; position = p; bridge = None }) →
+      IsUnplaced tells v (after f (unplace frame) found v)
+  unplaced_is f frame found p e = record {
+    range = record { frames = refl; levels = refl; first = refl; count = refl };
+    book = record { pieces = refl; tables = refl; top = refl };
+    path = refl;
+    purse = λ x is.
+        let both : Some (record { frame = frame; position = p; bridge = None }) ≡ Some x = sym e ∙ is in
+        let same : (let y : Prepared = record { frame = frame; position = p; bridge = None } in y) ≡ x = cc in
+        ap (λ (y : Prepared). y.frame ∷ v.purse) same;
+    none = refl;
+    end = refl;
+    busy = same_frames v.busy;
+    known = same_positions v.known;
+    told = λ told. record { taken = refl; absent = refl; stores = refl };
+  }

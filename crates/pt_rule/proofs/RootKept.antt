@@ -1,0 +1,101 @@
+-- A load of the root keeps the rule, and tells a level that reaches over all that the view knows.
+use Rattle.std.proofs.Common.{◌≡◌, ◌⊎◌, inl, inr, ℕ, zero, suc, ◌+◌, ◌-◌, ◌<◌, ◌≤◌, List, ◌++◌, sym, refl, ap, ◌∙◌, subst, arith, ⊎_elim}
+use Rattle.std.specs.Prelude.{IsTrue, nat_le, map, slice_index}
+use Rattle.std.specs.List.{range_with_len}
+use Rattle.std.proofs.lemmas.Bool.{and_from, le-leb}
+use mathlib.Core.Option.{some}
+use mathlib.Core.Logic.{dite}
+use native.Mathlib.Decide.{dec_le}
+use lib.ListN.{get_elem?}
+use Rattle.pt_model.specs.declared.position.Position.{Position}
+use Rattle.pt_model.specs.Layout.{Layout, input_pages}
+use Rattle.pt_model.specs.Tables.{is_spine, levels_between, spine_position, starting_top}
+use Rattle.pt_model.specs.Words.{root_level}
+use Rattle.pt_format.specs.Laws.{IsLayout}
+use Rattle.pt_view.specs.declared.view.View.{View}
+use Rattle.pt_view.specs.Lists.{IsAmong, places}
+use Rattle.pt_rule.specs.Lawful.{Lawful, IsOwnTable}
+use Rattle.pt_rule.specs.Kinds.{Keeps, RootTells, after, load_root}
+use Rattle.pt_rule.proofs.TotalsKept.{places_append, among_cases, all_map}
+use Rattle.pt_rule.proofs.TreeFacts.{IsThere, level_low, ends_in_root, spine_there, table_there, whole_alone}
+use Rattle.pt_rule.proofs.FindsKept.{Finds, finds_at, table_kept}
+
+pub among_append : (p : Position) (xs ys : List Position) → IsAmong (xs ++ ys) p → IsAmong xs p ⊎ IsAmong ys p
+among_append p xs ys h = dite (dec_le (places p xs) 0)
+    (λ none. inr (let all : 0 < places p (xs ++ ys) = h in let e = places_append p xs ys in omega arith))
+    (λ some_one. inl (omega arith))
+
+-- a position of the spine's list is a spine position of its levels
+pub spine_among : (n low : ℕ) (p : Position) → IsAmong (map spine_position (range_with_len low n)) p → (level : ℕ) × (low ≤ level) × (level < low + n) × (p ≡ spine_position level)
+spine_among zero low p h = absurd (let all : 0 < places p (map spine_position (range_with_len low zero)) = h in omega arith)
+spine_among (suc n) low p h = ⊎_elim
+    (λ (e : p ≡ spine_position low). (low, omega arith, omega arith, e))
+    (λ (rest : IsAmong (map spine_position (range_with_len (low + 1) n)) p).
+    let t : (level : ℕ) × (low + 1 ≤ level) × (level < low + 1 + n) × (p ≡ spine_position level) = spine_among n (low + 1) p rest in
+    let a = t.1 in let b = t.2 in (t.0, omega arith, omega arith, t.3))
+    (among_cases p (spine_position low) (map spine_position (range_with_len (low + 1) n)) h)
+
+pub spine_is : (levels level : ℕ) → starting_top levels ≤ level → IsTrue (is_spine levels (spine_position level))
+spine_is levels level low = and_from (nat_le (starting_top levels) level) _ (le-leb (starting_top levels) level low) refl
+
+module _ (f : Layout) (n l : ℕ) (good : IsLayout f) where
+  pub root_tells : (words : List ℕ) (views : List View) (id : ℕ) (v : View) → Lawful f n l words views → get_elem? views id ≡ some v → 0 < v.count →
+      RootTells f n v (slice_index words 0)
+  root_tells words views id v r at live = record {
+    a_frame = r.root.is_linked.is_linked.within;
+    a_level = high r.root.reached;
+    reaches = r.root.greatest id v at;
+    exact = λ all. top all r.root.reached;
+    over_tables = λ p a. ends_in_root f n l words views good r p (table_there f n l words views good r id v at p a);
+    over_known = λ p a s. level_low f n l words views good r p (r.known id v at p a).0;
+  }
+    where
+      high : ((j : ℕ) × (u : View) × (get_elem? views j ≡ some u) × (0 < u.count) × (u.top ≡ root_level words)) → root_level words < f.levels
+      high (j, u, here, some_page, is) = let h = (r.books j u here some_page).top_high in omega arith
+
+      top : v.count ≡ input_pages f → ((j : ℕ) × (u : View) × (get_elem? views j ≡ some u) × (0 < u.count) × (u.top ≡ root_level words)) → root_level words ≡ v.top
+      top all (j, u, here, some_page, is) = sym is ∙ ap (λ (w : View). w.top) (whole_alone f n l words views good r id v at live all j u here some_page)
+
+  root_finds : (words : List ℕ) (views : List View) (id : ℕ) (v : View) → Lawful f n l words views → get_elem? views id ≡ some v → 0 < v.count →
+      Finds f n l words views v (after f load_root (slice_index words 0) v)
+  root_finds words views id v r at live =
+      let w : View = after f load_root (slice_index words 0) v in
+      let book = r.books id v at live in
+      let levels = (r.sizes.live id v at live).1 in
+      let low = book.top_low in
+      let most = r.root.greatest id v at in
+      record {
+        range = record { frames = refl; levels = refl; first = refl; count = refl };
+        pieces = refl;
+        top = refl;
+        purse = refl;
+        end = refl;
+        prepared = refl;
+        busy = refl;
+        kept = λ p a. a;
+        found = λ p a. table_there f n l words views good r id v at p a;
+        own = all_map (IsOwnTable f v) (IsOwnTable f w) v.tables (λ p h. table_kept f p v w (record { frames = refl; levels = refl; first = refl; count = refl }) h) book.tables;
+        in_order = book.in_order;
+        path = record {
+          nodes = (record { at = r.root.is_linked; near = inl (spine_is v.levels (root_level words) (omega arith)) }, tt);
+          begins = spine_is v.levels (root_level words) (omega arith);
+          descends = tt;
+        };
+        known = λ p a. ⊎_elim
+            (λ (new : IsAmong (map spine_position (levels_between (starting_top v.levels) (root_level words))) p).
+            let t : (level : ℕ) × (starting_top v.levels ≤ level) × (level < starting_top v.levels + (root_level words + 1 - starting_top v.levels)) × (p ≡ spine_position level) =
+            spine_among (root_level words + 1 - starting_top v.levels) (starting_top v.levels) p new in
+            let from = t.1 in let to = t.2 in (
+              subst (IsThere f n l words views good r) (sym t.3)
+                  (spine_there f n l words views good r t.0 (subst (λ (k : ℕ). starting_top k ≤ t.0) levels from) (omega arith)),
+              inl (subst (λ (q : Position). IsTrue (is_spine v.levels q)) (sym t.3) (spine_is v.levels t.0 from)),
+            ))
+            (λ (old : IsAmong v.known p). r.known id v at p old)
+            (among_append p (map spine_position (levels_between (starting_top v.levels) (root_level words))) v.known a);
+      }
+
+  pub root_loaded : Keeps f n l load_root
+  root_loaded words views id v r at live may = (
+    finds_at f n l words views id 0 v (after f load_root (slice_index words 0) v) r at live (root_finds words views id v r at live),
+    root_tells words views id v r at live,
+  )

@@ -1,0 +1,140 @@
+-- For each part of the rule small states that are spoiled in that part: the state with a mapped page, or a new
+-- space, with one word or one field changed.
+use Rattle.std.proofs.Common.{◌≡◌, ℕ, true, false, ◌<◌, ◌≤◌, List, [], ◌∷◌, sym, refl, ap, ◌∙◌, ⊎_elim, arith, Option, Some, None}
+use Rattle.pt_model.specs.declared.position.Position.{Position}
+use Rattle.pt_model.specs.declared.block.Prot.TheVariants.{Read}
+use Rattle.pt_model.specs.Words.{tag, placed_at}
+use Rattle.pt_view.specs.declared.view.View.{View}
+use Rattle.pt_view.specs.declared.view.Piece.{Piece}
+use Rattle.pt_view.specs.Views.{spent}
+use Rattle.std.specs.Prelude.{◌==◌}
+use Rattle.std.proofs.lemmas.Bool.{eq-eqb}
+use Rattle.pt_rule.specs.Tags.{held_word, is_placed, free, held, placed}
+use Rattle.std.specs.Prelude.{IsTrue}
+use Rattle.pt_rule.specs.Totals.{total, prepares}
+use Rattle.pt_rule.specs.Linked.{IsLinkedAt}
+use Rattle.pt_rule.specs.Lawful.{SpansPart, FramesPart, PositionsPart, RootPart, ParentsPart, EntriesPart, BooksPart, PathsPart, PursesPart, SizesPart, BusyPart, KnownPart}
+use Rattle.pt_rule.proofs.States.{small, at, zeros, mapped_page, mapped_words, mapped_view, mapped_views, new_view}
+
+-- the words of the state with a mapped page, with other tags of frames 2 and 3 and other entries
+abbrev with_words : (root third fourth : ℕ) → (pointer leaf other third_first : ℕ) → List ℕ
+with_words root third fourth pointer leaf other third_first =
+    root ∷ 6 ∷ 130 ∷ third ∷ fourth ∷ (0 ∷ pointer ∷ 0 ∷ 0 ∷ (0 ∷ leaf ∷ other ∷ 0 ∷ (third_first ∷ zeros 7)))
+
+pub unchanged : with_words 1 1 0 4294971395 36865 0 0 ≡ mapped_words
+unchanged = refl
+
+differ : (a b : ℕ) → (a == b) ≡ false → a ≡ b → ⊥
+differ a b n e = let d : true ≡ false = sym (eq-eqb a b e) ∙ n in cc
+
+-- 1. The last page is of no span; every page is of two.
+pub page_lost : ¬ SpansPart small (record mapped_view { count = 63 } ∷ [])
+page_lost part = differ 0 1 refl (part 63)
+
+pub span_twice : ¬ SpansPart small (mapped_view ∷ mapped_view ∷ [])
+span_twice part = differ 2 1 refl (part 0)
+
+-- 2. A free frame in a purse; a frame in two purses; a tag of no kind; a held frame with an entry.
+pub free_held : ¬ FramesPart small 4 mapped_words (record mapped_view { purse = 2 ∷ 3 ∷ [] } ∷ [])
+free_held part = differ 1 0 refl (part.held 3 (omega arith))
+
+pub held_twice : ¬ FramesPart small 4 mapped_words (record mapped_view { count = 8 } ∷ record mapped_view { first = 8; count = 56 } ∷ [])
+held_twice part = differ 2 1 refl (part.held 2 (omega arith))
+
+three_held : (next : Option ℕ) → (let three : ℕ = 3 in three) ≡ held_word next → ⊥
+three_held None e = omega arith
+three_held (Some k) e = omega arith
+
+pub no_kind : ¬ FramesPart small 4 (with_words 1 1 3 4294971395 36865 0 0) mapped_views
+no_kind part = elim (part.tags 3 (omega arith)) [
+  | free e ↦ omega arith
+  | held next e ↦ three_held next e
+  | placed p legal e ↦ omega arith
+]
+
+pub not_cleared : ¬ FramesPart small 4 (with_words 1 1 0 4294971395 36865 0 36865) mapped_views
+not_cleared part = differ 36865 0 refl (part.cleared 2 0 (omega arith) (λ a. cc (a.placed)) (omega arith))
+
+-- 3. Two frames linked at one position; a linked frame whose position is in no book.
+pub linked_twice : ¬ PositionsPart small 4 2 (with_words 1 1 130 4294971395 36865 0 0) mapped_views
+linked_twice part =
+    differ 1 3 refl (part.distinct 1 3 (record { within = omega arith; placed = refl; unprepared = refl }) (record { within = omega arith; placed = refl; unprepared = refl }) refl)
+
+pub not_in_tree : ¬ PositionsPart small 4 2 mapped_words (record mapped_view { tables = [] } ∷ [])
+not_in_tree part = cc (part.in_tree 1 (record { within = omega arith; placed = refl; unprepared = refl }))
+
+-- 4. The root names another frame, a level below a view's top, or one that no view reaches.
+pub other_root : ¬ RootPart 4 (with_words 9 1 0 4294971395 36865 0 0) mapped_views
+other_root part = differ 0 1 refl (ap (λ (p : Position). p.level) part.is_linked.at)
+
+pub low_root : ¬ RootPart 4 mapped_words (record mapped_view { top = 2 } ∷ [])
+low_root part = let e : 2 ≤ 1 = part.greatest 0 (record mapped_view { top = 2 }) refl in omega arith
+
+-- 5. The pointer to a table is missing, or in another entry.
+linked : (words : List ℕ) (views : List View) (g : ℕ) (p : Position) → g < 4 → IsTrue (is_placed (tag words g)) → total (prepares g) views ≡ 0 → placed_at (tag words g) ≡ p → IsLinkedAt 4 words views g p
+linked words views g p within tagged none at = record { is_linked = record { within = within; placed = tagged; unprepared = none }; at = at }
+
+pub no_pointer : ¬ ParentsPart small 4 2 (with_words 1 1 0 0 36865 0 0) mapped_views
+no_pointer part = differ 0 4294971395 refl
+    (part.named 0 1 (at 0 4) (linked _ mapped_views 1 (at 0 4) (omega arith) refl refl refl) (λ e. differ 0 1 refl (ap (λ (p : Position). p.level) e))
+    (linked _ mapped_views 0 (at 1 0) (omega arith) refl refl refl))
+
+-- 6. A word where no piece stands; a piece without its word; two pieces at one entry.
+pub no_piece : ¬ EntriesPart small 4 2 (with_words 1 1 0 4294971395 36865 40961 0) mapped_views
+no_piece part =
+    differ 40961 0 refl (part.words_are 1 2 (at 0 4) (linked _ mapped_views 1 (at 0 4) (omega arith) refl refl refl) (omega arith) refl)
+
+pub no_word : ¬ EntriesPart small 4 2 (with_words 1 1 0 4294971395 0 0 0) mapped_views
+no_word part =
+    differ 0 36865 refl (part.words_are 1 1 (at 0 4) (linked _ mapped_views 1 (at 0 4) (omega arith) refl refl refl) (omega arith) refl)
+
+pub piece_twice : ¬ EntriesPart small 4 2 mapped_words (record mapped_view { pieces = mapped_page ∷ mapped_page ∷ [] } ∷ [])
+piece_twice part = let e : 2 ≤ 1 = part.once 1 (at 0 4) in omega arith
+
+-- 7. A block that isn't aligned; one that isn't in the span; a needed table that is in no book; a low top.
+abbrev turned : Piece
+turned = record { block = record { first = 5; log2 = 1; out = 9; prot = Read }; part = 0 }
+
+pub not_legal : ¬ BooksPart small (record mapped_view { pieces = turned ∷ [] } ∷ [])
+not_legal part = differ 1 0 refl ((part 0 (record mapped_view { pieces = turned ∷ [] }) refl (omega arith)).pieces.0.legal.first_aligned)
+
+pub outside : ¬ BooksPart small (record mapped_view { first = 8 } ∷ [])
+outside part = cc ((part 0 (record mapped_view { first = 8 }) refl (omega arith)).pieces.0.in_span)
+
+pub needed_lost : ¬ BooksPart small (record mapped_view { tables = [] } ∷ [])
+needed_lost part = ⊎_elim (λ (h : 0 < 0). omega arith) (λ (h : (false ≡ true) × (0 ≤ 1)). cc (h.0)) ((part 0 (record mapped_view { tables = [] }) refl (omega arith)).pieces.0.has_needed.0)
+
+pub top_low : ¬ BooksPart small (record new_view { top = 0 } ∷ [])
+top_low part = let e = (part 0 (record new_view { top = 0 }) refl (omega arith)).top_low in omega arith
+
+-- 8. A path that names another frame; one that begins off the spine; one that leaves out a table.
+pub other_frame : ¬ PathsPart small 4 mapped_words (record mapped_view { path = record { frame = 2; position = at 1 0 } ∷ [] } ∷ [])
+other_frame part = cc ((part 0 (record mapped_view { path = record { frame = 2; position = at 1 0 } ∷ [] }) refl).nodes.0.at.is_linked.placed)
+
+pub off_spine : ¬ PathsPart small 4 mapped_words (record mapped_view { path = record { frame = 1; position = at 0 4 } ∷ [] } ∷ [])
+off_spine part = cc ((part 0 (record mapped_view { path = record { frame = 1; position = at 0 4 } ∷ [] }) refl).begins)
+
+-- 9. A tag that names a frame that isn't in the purse; an end mark that is no frame.
+pub chain_goes_on : ¬ PursesPart 4 (with_words 1 17 0 4294971395 36865 0 0) mapped_views
+chain_goes_on part = differ 17 1 refl ((part.chained 0 mapped_view refl).0)
+
+pub end_is_no_frame : ¬ PursesPart 4 (with_words 1 41 0 4294971395 36865 0 0) (record mapped_view { end = Some 9 } ∷ [])
+end_is_no_frame part = let h : 9 < 4 = part.ends 0 (record mapped_view { end = Some 9 }) refl in omega arith
+
+-- 10. A word too many; a view of a space of other levels; a view of no pages with a purse.
+pub long : ¬ SizesPart small 4 2 (0 ∷ mapped_words) mapped_views
+long part = differ 22 21 refl (part.words_are)
+
+pub other_levels : ¬ SizesPart small 4 2 mapped_words (record mapped_view { levels = 3 } ∷ [])
+other_levels part = differ 3 2 refl ((part.live 0 (record mapped_view { levels = 3 }) refl (omega arith)).1)
+
+pub half_spent : ¬ SizesPart small 4 2 mapped_words (record spent { purse = 3 ∷ [] } ∷ [])
+half_spent part = let e = ap (λ (v : View). v.purse) (part.dead 0 (record spent { purse = 3 ∷ [] }) refl refl) in cc
+
+-- 11. A free frame on the busy list of the whole space.
+pub not_busy : ¬ BusyPart small 4 mapped_words (record mapped_view { busy = 3 ∷ [] } ∷ [])
+not_busy part = part 0 (record mapped_view { busy = 3 ∷ [] }) refl refl 3 (omega arith) (omega arith) refl
+
+-- 12. A known position that isn't of the tree.
+pub not_known : ¬ KnownPart small 2 mapped_words (record mapped_view { known = at 0 8 ∷ [] } ∷ [])
+not_known part = cc ((part 0 (record mapped_view { known = at 0 8 ∷ [] }) refl (at 0 8) (omega arith)).0)

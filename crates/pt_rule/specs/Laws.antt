@@ -1,0 +1,43 @@
+-- What is proved of the rule.
+use Rattle.std.specs.Prelude.{◌≡◌, ℕ, ◌+◌, ◌<◌, ◌≤◌, List, [], ◌∷◌}
+use mathlib.Core.Option.{some}
+use lib.ListN.{get_elem?}
+use Rattle.pt_model.specs.Layout.{Layout, input_pages}
+use Rattle.pt_model.specs.Words.{frame_limit}
+use Rattle.pt_format.specs.Laws.{IsLayout, WordsDiffer}
+use Rattle.pt_format.specs.Manual.{StepsAgree}
+use Rattle.pt_view.specs.declared.view.View.{View}
+use Rattle.pt_view.specs.Views.{linked_of}
+use Rattle.pt_view.specs.Calls.{held_count, HasEveryFrame}
+use Rattle.pt_rule.specs.Lawful.{Lawful}
+use Rattle.pt_rule.specs.Kinds.{Kind, Keeps, KeepsCut}
+use Rattle.pt_rule.specs.Opening.{opening_view, IsNew}
+
+-- a new space is lawful, with its one view
+abbrev pub NewIsLawful : Type 0
+NewIsLawful =
+    (f : Layout) (n l hold : ℕ) (words : List ℕ) → IsLayout f → n ≤ frame_limit f → hold < n → f.start ≤ l → l ≤ f.levels →
+    IsNew f n l hold words → Lawful f n l words (opening_view f n l hold ∷ [])
+
+-- each kind of step keeps the rule, and the number that it finds tells what the kind says
+abbrev pub StepsKeep : Type 0
+StepsKeep = (f : Layout) → IsLayout f → WordsDiffer f → StepsAgree f → (n l : ℕ) (k : Kind) → Keeps f n l k
+
+-- a law holds too for a holder that has only the front of its seat's path
+abbrev pub FrontsKeep : Type 0
+FrontsKeep = (f : Layout) (n l : ℕ) (k : Kind) → Keeps f n l k → KeepsCut f n l k
+
+-- a view whose span is the whole space is the only live one, and the rule holds with it alone
+abbrev pub WholeIsAlone : Type 0
+WholeIsAlone =
+    (f : Layout) (n l : ℕ) (words : List ℕ) (views : List View) (id : ℕ) (v : View) → Lawful f n l words views → get_elem? views id ≡ some v →
+    v.count ≡ input_pages f →
+    Lawful f n l words (v ∷ []) × ((j : ℕ) (u : View) → get_elem? views j ≡ some u → 0 < u.count → j ≡ id)
+
+-- where a view spans the whole space, the linked positions, its purse and its prepared frame take no more than
+-- the frames, and all of them where every frame is on its busy list
+abbrev pub WholeIsCounted : Type 0
+WholeIsCounted =
+    (f : Layout) → IsLayout f → (n l : ℕ) (words : List ℕ) (views : List View) (id : ℕ) (v : View) → Lawful f n l words views → get_elem? views id ≡ some v →
+    v.count ≡ input_pages f →
+    (linked_of v + held_count v ≤ n) × (HasEveryFrame v → linked_of v + held_count v ≡ n)

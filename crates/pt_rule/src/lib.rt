@@ -1,0 +1,37 @@
+//! The rule of the words that several holders share: what holds of the words of a space and of all views
+//! between any two steps, and what one step of one holder may be. It stands on the views (`pt_view`) and on
+//! the laws of formats (`pt_format`), and has no code.
+//!
+//! Promised: a new space is lawful; each step keeps the rule, whatever the words and the other views are, and
+//! the number that it finds tells what its kind says; a holder of the whole space is the only one.
+#![tactic(auto)]
+
+ghost use Rattle.pt_rule.specs.Laws.{NewIsLawful, StepsKeep, FrontsKeep, WholeIsAlone, WholeIsCounted};
+
+/// A new space is lawful, with the one view of the whole space.
+pub fn new_is_lawful()
+    ensures { NewIsLawful }
+{}
+
+/// Each kind of step keeps the rule, whatever the words and the other views are: the exchanges, stores and loads
+/// of a frame's tag, the loads of the root and of an entry, the exchange of an entry that links a table, and the
+/// store of a block's word to an entry. What the number found tells is `Tells` of the kind.
+pub fn steps_keep()
+    ensures { StepsKeep }
+{}
+
+/// What is said of a seat's step holds too of a step of a holder that has only the front of its seat's path.
+pub fn fronts_keep()
+    ensures { FrontsKeep }
+{}
+
+/// A view whose span is the whole space is the only live one.
+pub fn whole_is_alone()
+    ensures { WholeIsAlone }
+{}
+
+/// The linked positions, the purse and the prepared frame of a view of the whole space take no more than the
+/// frames, and all of them where every frame is on its busy list.
+pub fn whole_is_counted()
+    ensures { WholeIsCounted }
+{}
