@@ -1,0 +1,104 @@
+-- The way down to a page, and what a walk leaves as it was.
+use Rattle.std.specs.Prelude.{◌≡◌, ◌⊎◌, ℕ, ◌+◌, ◌-◌, ◌*◌, ◌/◌, ◌%◌, ◌^◌, ◌<◌, ◌≤◌, List, [], ◌∷◌, Some, IsTrue}
+use Rattle.pt_model.specs.declared.position.Position.{Position}
+use Rattle.pt_model.specs.declared.block.Prot.{Prot}
+use Rattle.pt_model.specs.Layout.{Layout, IsLegalBlock, end_of, input_pages, pages_of_entry, pages_of_table}
+use Rattle.pt_model.specs.Tables.{is_spine, position_over, spine_position}
+use Rattle.pt_model.specs.declared.block.Block.{Block}
+use Rattle.pt_model.specs.Pages.{page_at}
+use Rattle.pt_format.specs.Words.{IsUnder, MayBeLeaf}
+use Rattle.pt_view.specs.declared.view.View.{View}
+use Rattle.pt_view.specs.declared.view.Piece.{Piece}
+use Rattle.pt_view.specs.Lists.{IsAmong, SameFrames}
+use Rattle.pt_view.specs.Pieces.{IsOneOf, first_of, level_of, table_of, word_of, words_of}
+use Rattle.pt_view.specs.Views.{IsAtRest, SameRange, SameBook, SamePurse}
+use Rattle.pt_view.specs.Calls.{lowest}
+
+-- the number of the entry at which the way to a page goes on, in a table of this level
+abbrev pub entry_number : Layout → (level page : ℕ) → ℕ
+entry_number f level page = page / pages_of_entry f level % 2 ^ f.index
+
+abbrev pub IsInSpan : View → (page : ℕ) → Type 0
+IsInSpan v page = (v.first ≤ page) × (page < v.first + v.count)
+
+-- the path's last table is the one of this level over the page
+abbrev pub IsOver : Layout → View → (page level : ℕ) → Type 0
+IsOver f v page level = (frame : ℕ) × (lowest v.path ≡ Some (record { frame = frame; position = position_over f page level }))
+
+-- the path is the root's table alone, and its level is at least that of the book's top
+abbrev pub IsRooted : View → (level : ℕ) → Type 0
+IsRooted v level = (v.top ≤ level) × (frame : ℕ) × (v.path ≡ record { frame = frame; position = spine_position level } ∷ [])
+
+-- a page is one of those under a piece
+abbrev pub IsUnderPiece : Layout → Piece → (page : ℕ) → Type 0
+IsUnderPiece f x page = (first_of f x ≤ page) × (page < first_of f x + pages_of_entry f (level_of f x))
+
+-- a piece of a legal block below the top, in a table of the book or of the spine
+pub record IsOwn (f : Layout) (v : View) (x : Piece) : Type 0 where
+  pub a_part : x.part < words_of f x.block
+  pub legal : IsLegalBlock f x.block
+  pub stated : IsTrue (f.states x.block.prot)
+  pub under_top : end_of x.block ≤ pages_of_table f v.top
+  pub low : level_of f x ≤ v.top
+  pub in_table : IsAmong v.tables (table_of f x) ⊎ IsTrue (is_spine v.levels (table_of f x))
+
+abbrev pub OwnsAll : Layout → View → Type 0
+OwnsAll f v = (x : Piece) → IsOneOf v.pieces x → IsOwn f v x
+
+-- a page of the span is asked for
+pub record IsAsked (f : Layout) (v : View) (page : ℕ) : Type 0 where
+  pub a_page : page < input_pages f
+  pub in_span : IsInSpan v page
+  pub owns : OwnsAll f v
+
+-- the way to it goes on from the path's last table, of this level
+pub record IsGoing (f : Layout) (v : View) (page level : ℕ) : Type 0 where
+  pub below : level < f.levels
+  pub over : IsOver f v page level
+  pub asked : IsAsked f v page
+
+-- the way to it begins at the root's table, of this level
+pub record IsStarting (f : Layout) (v : View) (page level : ℕ) : Type 0 where
+  pub below : level < f.levels
+  pub root : IsRooted v level
+  pub asked : IsAsked f v page
+
+-- no piece of so low a level has the page
+abbrev pub HasNone : Layout → View → (page level : ℕ) → Type 0
+HasNone f v page level = (x : Piece) → IsOneOf v.pieces x → IsUnderPiece f x page → level_of f x ≤ level → ⊥
+
+abbrev pub HasNowhere : Layout → View → (page : ℕ) → Type 0
+HasNowhere f v page = (x : Piece) → IsOneOf v.pieces x → IsUnderPiece f x page → ⊥
+
+-- this word, of a table of this level, is that of the piece that has the page
+pub record IsFound (f : Layout) (v : View) (page level word : ℕ) : Type 0 where
+  pub piece : Piece
+  pub own : IsOneOf v.pieces piece
+  pub has_page : IsUnderPiece f piece page
+  pub level_is : level ≡ level_of f piece
+  pub word_is : word ≡ word_of f piece
+
+-- what a walk leaves as it was; it may come to know of more linked positions
+pub record Walked (tells : Type 0) (v w : View) : Type 0 where
+  pub range : SameRange v w
+  pub book : SameBook v w
+  pub purse : SamePurse v w
+  pub prepared : w.prepared ≡ v.prepared
+  pub busy : SameFrames v.busy w.busy
+  pub known : (p : Position) → IsAmong v.known p → IsAmong w.known p
+  pub taken : tells → w.taken ≡ v.taken
+  pub stores : tells → w.stores ≡ v.stores
+
+-- the page of an address, where it is one of these
+abbrev pub IsPageIn : Layout → (first count address page : ℕ) → Type 0
+IsPageIn f first count address page = (page_at f address ≡ Some page) × (first ≤ page) × (page < first + count)
+
+-- what a leaf translates an address to, at a page under it
+abbrev pub MapsTo : Layout → (level word page address : ℕ) → ℕ × Prot → Type 0
+MapsTo f level word page address to =
+    (first log2 out part : ℕ) (prot : Prot) → MayBeLeaf f level log2 out prot part → word ≡ f.leaf level log2 out prot part →
+    IsUnder f level log2 first part page → to ≡ ((out + (page - first)) * 2 ^ f.granule + address % 2 ^ f.granule, prot)
+
+-- the holder is at rest, whatever its blocks are
+abbrev pub Rests : Layout → View → Type 0
+Rests f v = (blocks : List Block) × IsAtRest f v blocks
