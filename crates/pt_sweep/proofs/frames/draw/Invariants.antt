@@ -1,0 +1,28 @@
+use Rattle.std.proofs.Common.{◌≡◌, ℕ, ◌+◌, ◌<◌, ◌≤◌, length}
+use Rattle.pt_view.specs.declared.view.View.{View}
+use Rattle.pt_view.specs.Lists.{IsIn}
+use Rattle.pt_view.specs.Calls.{HasEveryFrame}
+use Rattle.pt_walk.specs.Walks.{Rests}
+use Rattle.pt_sweep.specs.Draws.{Gains, KeepsBook, Finds}
+use Rattle.pt_sweep.proofs.frames.draw.Given as goal
+
+abbrev pub invariant-loop-frame : goal.invariant-loop-frame
+invariant-loop-frame g l =
+    let v : View = g.H.Holder.view l.initial.holder in
+    let w : View = g.H.Holder.view l.holder in
+    record {
+      space : g.H.Holder.space l.holder ≡ g.H.Holder.space l.initial.holder;
+      aside : g.H.Holder.aside l.holder ≡ g.H.Holder.aside l.initial.holder;
+      alone : g.H.Holder.alone l.initial.holder → g.H.Holder.alone l.holder;
+      linked : g.H.Holder.alone l.initial.holder → g.H.Holder.linked l.holder ≡ g.H.Holder.linked l.initial.holder;
+      keeps : KeepsBook v w;
+      rest : Rests g.F.Format.layout w;
+      most : l.taken ≤ l.fn.count;
+      purse : Gains v.purse w.purse l.taken;
+      busy : (x : ℕ) → IsIn v.busy x → IsIn w.busy x;
+      absent : g.H.Holder.tells → w.absent ≡ v.absent;
+      stores : g.H.Holder.tells → w.stores ≡ v.stores;
+      every : (x : ℕ) → x < l.frame → IsIn w.busy x;
+      told : g.H.Holder.tells → Finds v w (λ x. x < l.frame);
+      all : g.H.Holder.alone l.initial.holder → 0 < l.frame → HasEveryFrame w → g.H.Holder.linked l.holder + length w.purse ≡ w.frames;
+    }
