@@ -1,0 +1,13 @@
+pub mod Changes
+pub mod Descent
+pub mod PageBook
+pub mod PageFacts
+pub mod Paged
+pub mod PlainFacts
+pub mod TreeGrowth
+pub mod TreeKept
+pub mod TreeLink
+pub mod TreeOpen
+pub mod TreeTables
+pub mod TreeWalk
+pub mod TreeWrite

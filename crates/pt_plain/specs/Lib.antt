@@ -1,0 +1,5 @@
+pub mod Paged
+pub mod Sets
+pub mod Tree
+pub mod Owner
+pub mod Growth
