@@ -1,0 +1,42 @@
+-- What a script that runs meets.
+use Rattle.std.proofs.Common.{◌≡◌, ℕ, List, [], ◌∷◌, Option, None, Some, Bool, true, false, refl, ap, sym, ◌∙◌, inl, inr}
+use Rattle.std.specs.Prelude.{IsTrue, IsNone, IfOk, IfErr, Result, Ok, Err}
+use Rattle.std.proofs.lemmas.Bool.{cases_Bool, and_from}
+use Rattle.pt_model.specs.declared.command.Command.{Command}
+use Rattle.pt_model.specs.Layout.{Layout}
+use Rattle.pt_script.specs.declared.whole.Script.{Script}
+use Rattle.pt_script.specs.declared.error.ScriptError.{ScriptError}
+use Rattle.pt_script.specs.declared.error.ScriptError.TheVariants.{Bad, Memory}
+use Rattle.pt_script.specs.Scripts.{text_in}
+use Rattle.iopt.specs.Built.{is_built, are_built}
+use Rattle.iopt.specs.Stage.{first_unbuilt, layout_of, unbuilt_line, IsRunOf, IsAnswered, IsRefusedFor, IsStopped}
+
+never : {A : Type 0} → (x : A) → Some x ≡ None → ⊥
+never x e = cc
+
+apart : true ≡ false → ⊥
+apart e = cc
+
+-- where no line is unbuilt, each command runs
+pub all_built : (f : Layout) (cs : List Command) (next : Option ℕ) → first_unbuilt f cs next ≡ None → IsTrue (are_built f cs)
+all_built f [] next e = refl
+all_built f (c ∷ cs) next e = elim (cases_Bool (is_built f c.what)) [
+  | inl yes_ ↦ (let rest : first_unbuilt f cs next ≡ None = rw yes_ at e in and_from (is_built f c.what) (are_built f cs) yes_ (all_built f cs next rest))
+  | inr not_ ↦ (let stops : Some c.line ≡ None = rw not_ at e in absurd (never c.line stops))
+]
+
+pub none_unbuilt : (f : Layout) (cs : List Command) (next result : Option ℕ) → result ≡ first_unbuilt f cs next → IsNone result → IsTrue (are_built f cs)
+none_unbuilt f cs next None e h = all_built f cs next (sym e)
+none_unbuilt f cs next (Some line) e h = absurd (apart h)
+
+-- what a script's run answers is what its text is answered
+pub answers : {T : Type 0} → (items : T → List ℕ) (text : List ℕ) (s : Script) (result : Result T ScriptError) →
+    text ≡ text_in s → IfOk result (λ r. IsRunOf s (items r)) → IfOk result (λ r. IsAnswered text (items r))
+answers items text s (Ok r) is h = record { script = s; is_script = is; run = h }
+answers items text s (Err e) is h = tt
+
+pub refuses : {T : Type 0} → (text : List ℕ) (s : Script) (result : Result T ScriptError) →
+    text ≡ text_in s → IfErr result (IsStopped (unbuilt_line (layout_of s.format) s)) → IfErr result (IsRefusedFor text)
+refuses text s (Ok r) is h = tt
+refuses text s (Err Memory) is h = tt
+refuses text s (Err (Bad line reason)) is h = inr (h.0, record { script = s; is_script = is; first = h.1 })

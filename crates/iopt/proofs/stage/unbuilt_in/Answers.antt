@@ -1,0 +1,8 @@
+use Rattle.std.proofs.Common.{◌≡◌, rules}
+use Rattle.iopt.specs.Stage.{first_ask}
+use Rattle.iopt.proofs.StageFacts.{none_unbuilt}
+use Rattle.iopt.proofs.stage.unbuilt_in.Goals as goal
+
+pub returns-clause-built : goal.returns-clause-built
+returns-clause-built g c =
+    none_unbuilt g.F.Format.layout c.args.script.now.body (first_ask c.args.script.now.tail) c.first_unbuilt.result (search rules)

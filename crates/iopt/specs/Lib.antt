@@ -1,0 +1,5 @@
+pub mod Built
+pub mod Ends
+pub mod Stage
+pub mod Top
+pub mod Running

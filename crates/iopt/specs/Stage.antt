@@ -1,0 +1,81 @@
+-- Which scripts the program runs so far, and what it answers to a text.
+use Rattle.std.specs.Prelude.{◌≡◌, ◌⊎◌, ℕ, nat_lt, not, ◌==◌, List, [], ◌∷◌, Option, None, Some, if◌then◌else◌}
+use Rattle.pt_model.specs.declared.command.Name.{Name}
+use Rattle.pt_model.specs.declared.command.Name.TheVariants.{VtdSs3, VtdSs4, VtdSs5, X86L4, X86L5}
+use Rattle.pt_model.specs.declared.command.Command.{Command}
+use Rattle.pt_model.specs.declared.command.Ask.{Ask}
+use Rattle.pt_model.specs.Layout.{Layout}
+use Rattle.pt_model.specs.Run.{run_of}
+use Rattle.pt_model.specs.Text.{replies_text}
+use Rattle.pt_script.specs.declared.whole.Script.{Script}
+use Rattle.pt_script.specs.declared.error.Reason.{Reason}
+use Rattle.pt_script.specs.declared.error.Reason.TheVariants.{Unbuilt}
+use Rattle.pt_script.specs.declared.error.ScriptError.{ScriptError}
+use Rattle.pt_script.specs.declared.error.ScriptError.TheVariants.{Bad, Memory}
+use Rattle.pt_script.specs.Scripts.{text_in}
+use Rattle.pt_script.specs.Text.{IsBadAt}
+use Rattle.fmt_vtdss.specs.VtdWords as vtd
+use Rattle.fmt_x86.specs.X86Words as x86
+use Rattle.iopt.specs.Built.{is_built, frames_for, machine}
+
+-- the formats that run
+abbrev pub layout_of : Name → Option Layout
+layout_of VtdSs3 = Some (vtd.layout 3)
+layout_of VtdSs4 = Some (vtd.layout 4)
+layout_of VtdSs5 = Some (vtd.layout 5)
+layout_of X86L4 = Some (x86.layout 4)
+layout_of X86L5 = Some (x86.layout 5)
+layout_of _ = None
+
+-- the line of the first command that doesn't run, or the one that follows
+abbrev pub first_unbuilt : Layout → List Command → Option ℕ → Option ℕ
+first_unbuilt f [] next = next
+first_unbuilt f (c ∷ cs) next = if is_built f c.what then first_unbuilt f cs next else Some c.line
+
+-- what is asked after `close` doesn't run
+abbrev pub first_ask : List Ask → Option ℕ
+first_ask [] = None
+first_ask (a ∷ asks) = Some a.line
+
+-- the first line of a script that doesn't run: the format's, the frames' where they might not do for the
+-- maps, the hold's where it isn't 0, a command's or an ask's
+abbrev pub unbuilt_in : Layout → Script → Option ℕ
+unbuilt_in f s =
+    if nat_lt s.frames (frames_for f s.body) then Some 2 else (
+    if not (s.hold == 0) then Some 3 else first_unbuilt f s.body (first_ask s.tail))
+
+abbrev pub unbuilt_line : Option Layout → Script → Option ℕ
+unbuilt_line None s = Some 1
+unbuilt_line (Some f) s = unbuilt_in f s
+
+-- the replies to a script that runs are the text of its run
+pub record IsRunOf (script : Script) (replies : List ℕ) : Type 0 where
+  pub layout : Layout
+  pub runs_on : layout_of script.format ≡ Some layout
+  pub runs : unbuilt_in layout script ≡ None
+  pub replies_are : replies ≡ replies_text (run_of (machine layout script.frames) script.body)
+
+-- the replies to a text: it is that of a script that runs, and they are the text of its run
+pub record IsAnswered (text replies : List ℕ) : Type 0 where
+  pub script : Script
+  pub is_script : text ≡ text_in script
+  pub run : IsRunOf script replies
+
+-- the text is that of a script, and this is its first line that doesn't run
+pub record IsUnbuilt (text : List ℕ) (line : ℕ) : Type 0 where
+  pub script : Script
+  pub is_script : text ≡ text_in script
+  pub first : unbuilt_line (layout_of script.format) script ≡ Some line
+
+-- why a text is refused: it is no script from this line on, for this reason, or the line doesn't run
+abbrev pub IsRefusal : (text : List ℕ) → (line : ℕ) → Reason → Type 0
+IsRefusal text line reason = IsBadAt text line reason ⊎ ((reason ≡ Unbuilt) × IsUnbuilt text line)
+
+abbrev pub IsRefusedFor : (text : List ℕ) → ScriptError → Type 0
+IsRefusedFor text Memory = Unit {0}
+IsRefusedFor text (Bad line reason) = IsRefusal text line reason
+
+-- this script stops at a line that doesn't run, or no memory was found
+abbrev pub IsStopped : (unbuilt : Option ℕ) → ScriptError → Type 0
+IsStopped unbuilt Memory = Unit {0}
+IsStopped unbuilt (Bad line reason) = (reason ≡ Unbuilt) × (unbuilt ≡ Some line)

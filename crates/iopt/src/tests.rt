@@ -1,0 +1,234 @@
+//! What no clause says: the worked examples, each status once, and each fault.
+
+use crate::status::{Status, status_text};
+use crate::top::run;
+use crate::words::Words;
+use pt_script::Reason;
+use pt_stream::{MemorySink, MemorySource, SureSource};
+use std::alloc::Global;
+use std::test::Fail;
+
+const FIRST_PATH: &[u8] =
+    b"format vtdss3\nframes 16\nhold 0\nmap 0x1000 0x200000 0x1000 rw\nlookup 0x1abc\nmap 0x1000 0x3000 0x1000 r\nmap 0x1234 0x3000 0x1000 r\nmap 0x8000000000 0x0 0x1000 r\nlookup 0x2000\nlookup 0x8000000000\nclose\nend\n";
+
+const FIRST_REPLIES: &[u8] =
+    b"4 map ok\n5 lookup 0x200abc rw\n6 map occupied 0x1000\n7 map misaligned\n8 map outside\n9 lookup none\n10 lookup outside\n";
+
+const ROOM: usize = 4096;
+
+fn one_word(alloc: Global, word: &str) -> Result<Words, Fail> {
+    let mut words = Words::new(alloc);
+    words.push(word)?;
+    Ok(words)
+}
+
+// How a run of a text ends, and what it puts.
+fn outcome(alloc: Global, text: &[u8]) -> Result<(Status, MemorySink), Fail> {
+    let words = one_word(alloc, "run")?;
+    let mut source = SureSource::new(Vec::from_slice(alloc, text)?);
+    let mut sink = MemorySink::new(alloc, ROOM, ROOM, Vec::new(alloc))?;
+    let status = run(alloc, &words, &mut source, &mut sink);
+    Ok((status, sink))
+}
+
+#[test]
+fn the_first_path(rt: HostRuntime) -> Result<(), Fail> {
+    let words = one_word(rt.alloc(), "run")?;
+    for piece in [1, 7, 4096] {
+        assert!(rt; piece > 0);
+        let bytes = Vec::from_slice(rt.alloc(), FIRST_PATH)?;
+        let mut source = MemorySource::new(bytes, piece, Vec::new(rt.alloc()));
+        let mut sink = MemorySink::new(rt.alloc(), ROOM, 5, Vec::new(rt.alloc()))?;
+        let status = run(rt.alloc(), &words, &mut source, &mut sink);
+        assert_eq!(rt; status, Status::Done);
+        assert_eq!(rt; sink.bytes(), FIRST_REPLIES);
+    }
+    Ok(())
+}
+
+#[test]
+fn each_fault_of_a_device_ends_the_run(rt: HostRuntime) -> Result<(), Fail> {
+    let words = one_word(rt.alloc(), "run")?;
+    for call in 1..31 {
+        let bytes = Vec::from_slice(rt.alloc(), FIRST_PATH)?;
+        let mut source = MemorySource::new(bytes, 7, vec![in rt.alloc(); call]?);
+        let mut sink = MemorySink::new(rt.alloc(), ROOM, ROOM, Vec::new(rt.alloc()))?;
+        let status = run(rt.alloc(), &words, &mut source, &mut sink);
+        assert_eq!(rt;
+            status,
+            Status::ReadFault,
+            "call {call} of the source fails"
+        );
+        assert_eq!(rt; sink.bytes().len(), 0);
+    }
+    for call in 1..24 {
+        let put = 5 * (call - 1);
+        let mut source = SureSource::new(Vec::from_slice(rt.alloc(), FIRST_PATH)?);
+        let mut sink = MemorySink::new(rt.alloc(), ROOM, 5, vec![in rt.alloc(); call as u64]?)?;
+        let status = run(rt.alloc(), &words, &mut source, &mut sink);
+        assert_eq!(rt; status, Status::WriteFault, "call {call} of the sink fails");
+        assert_eq!(rt; sink.bytes(), &FIRST_REPLIES[..put]);
+    }
+    Ok(())
+}
+
+#[test]
+fn other_words_leave_the_input(rt: HostRuntime) -> Result<(), Fail> {
+    let mut words = Words::new(rt.alloc());
+    for word in ["", "RUN", "runs"] {
+        let mut source = SureSource::new(Vec::from_slice(rt.alloc(), FIRST_PATH)?);
+        let mut sink = MemorySink::new(rt.alloc(), ROOM, ROOM, Vec::new(rt.alloc()))?;
+        let other = one_word(rt.alloc(), word)?;
+        assert_eq!(rt;
+            run(rt.alloc(), &other, &mut source, &mut sink),
+            Status::Usage
+        );
+        assert_eq!(rt;
+            run(rt.alloc(), &words, &mut source, &mut sink),
+            Status::Usage
+        );
+        assert_eq!(rt; sink.bytes().len(), 0);
+    }
+    words.push("run")?;
+    words.push("x")?;
+    let mut source = SureSource::new(Vec::from_slice(rt.alloc(), FIRST_PATH)?);
+    let mut sink = MemorySink::new(rt.alloc(), ROOM, ROOM, Vec::new(rt.alloc()))?;
+    assert_eq!(rt;
+        run(rt.alloc(), &words, &mut source, &mut sink),
+        Status::Usage
+    );
+    let only = one_word(rt.alloc(), "run")?;
+    assert_eq!(rt;
+        run(rt.alloc(), &only, &mut source, &mut sink),
+        Status::Done,
+        "the input is still there"
+    );
+    Ok(())
+}
+
+// Inputs that are refused, each with its first bad line and the reason.
+const REFUSED: [(&[u8], u32, Reason); 15] = [
+    // four maps want nine frames
+    (
+        b"format vtdss3\nframes 8\nhold 0\nmap 0x1000 0x200000 0x1000 rw\nlookup 0x1abc\nmap 0x1000 0x3000 0x1000 r\nmap 0x1234 0x3000 0x1000 r\nmap 0x8000000000 0x0 0x1000 r\nlookup 0x2000\nlookup 0x8000000000\nclose\nend\n",
+        2,
+        Reason::Unbuilt,
+    ),
+    (b"", 1, Reason::Ended),
+    (
+        b"format vtdss3\nframes 8\nhold 0\nclose\nend",
+        5,
+        Reason::Ended,
+    ),
+    (
+        b"format vtdss3\nframes 8\nhold 0\nclose\nend\nx",
+        6,
+        Reason::After,
+    ),
+    (
+        b"format vtdss3\nframes 8\nhold 0\nfork 0x1000\nrelease\n",
+        5,
+        Reason::Word,
+    ),
+    (
+        b"format vtdss3\nframes 8\nhold 0\nmap  0x1000 0x0 0x1000 r\n",
+        4,
+        Reason::Shape,
+    ),
+    (
+        b"format vtdss3\nframes 8\nhold 0\nlookup 0x01\n",
+        4,
+        Reason::Argument,
+    ),
+    (
+        b"format vtdss3\nframes 0\nhold 0\nclose\nend\n",
+        2,
+        Reason::Limit,
+    ),
+    (
+        b"format sv39\nframes 8\nhold 0\nclose\nend\n",
+        1,
+        Reason::Unbuilt,
+    ),
+    (
+        b"format vtdss3\nframes 8\nhold 1\nclose\nend\n",
+        3,
+        Reason::Unbuilt,
+    ),
+    (
+        b"format vtdss3\nframes 2\nhold 0\nmap 0x0 0x0 0x1000 r\nclose\nend\n",
+        2,
+        Reason::Unbuilt,
+    ),
+    (
+        b"format vtdss3\nframes 8\nhold 0\nmap 0x0 0x0 0x2000 r\nclose\nend\n",
+        4,
+        Reason::Unbuilt,
+    ),
+    (
+        b"format vtdss3\nframes 8\nhold 0\nlookup 0x0\ndump\nclose\nend\n",
+        5,
+        Reason::Unbuilt,
+    ),
+    (
+        b"format vtdss3\nframes 8\nhold 0\nlookup 0x0\nclose\ncensus\nend\n",
+        6,
+        Reason::Unbuilt,
+    ),
+    (
+        b"format vtdss3\nframes 8\nhold 0\ndump\ndumb\nclose\nend\n",
+        5,
+        Reason::Word,
+    ),
+];
+
+#[test]
+fn inputs_are_refused_at_their_first_bad_line(rt: HostRuntime) -> Result<(), Fail> {
+    for (text, line, reason) in REFUSED {
+        let (status, sink) = outcome(rt.alloc(), text)?;
+        assert_eq!(rt; status, Status::Refused { line, reason });
+        assert_eq!(rt; sink.bytes().len(), 0);
+    }
+    Ok(())
+}
+
+#[test]
+fn an_input_has_a_limit(rt: HostRuntime) -> Result<(), Fail> {
+    let most = vec![in rt.alloc(); b'a'; 1_048_576]?;
+    let (status, _) = outcome(rt.alloc(), &most)?;
+    assert_eq!(rt;
+        status,
+        Status::Refused {
+            line: 1,
+            reason: Reason::Ended
+        }
+    );
+    let more = vec![in rt.alloc(); b'a'; 1_048_577]?;
+    let (status, sink) = outcome(rt.alloc(), &more)?;
+    assert_eq!(rt; status, Status::TooLong);
+    assert_eq!(rt; sink.bytes().len(), 0);
+    Ok(())
+}
+
+#[test]
+fn each_status_has_its_line(rt: HostRuntime) -> Result<(), Fail> {
+    let refused = Status::Refused {
+        line: 10,
+        reason: Reason::Ended,
+    };
+    let cases = [
+        (Status::Done, "", 0),
+        (Status::Usage, "bad words", 2),
+        (refused, "refused at line 10: ended", 3),
+        (Status::TooLong, "input too long", 3),
+        (Status::ReadFault, "read fault", 4),
+        (Status::WriteFault, "write fault", 5),
+        (Status::Memory, "out of memory", 6),
+    ];
+    for (status, line, code) in cases {
+        let text = status_text(rt.alloc(), &status)?;
+        assert_eq!(rt; text.as_slice(), line.as_bytes());
+        assert_eq!(rt; status.exit_code(), code);
+    }
+    Ok(())
+}
