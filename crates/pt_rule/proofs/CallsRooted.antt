@@ -36,13 +36,13 @@ one_more q ps p = (
   λ h. ⊎_elim (λ (e : p ≡ q). subst (IsAmong (q ∷ ps)) (sym e) (among_here q ps)) (λ (old : IsAmong ps p). among_more p q ps old) h,
 )
 
-among_left : (p : Position) (xs ys : List Position) → IsAmong xs p → IsAmong (xs ++ ys) p
+pub among_left : (p : Position) (xs ys : List Position) → IsAmong xs p → IsAmong (xs ++ ys) p
 among_left p xs ys h = let some_one : 0 < places p xs = h in let e = places_append p xs ys in omega arith
 
-among_right : (p : Position) (xs ys : List Position) → IsAmong ys p → IsAmong (xs ++ ys) p
+pub among_right : (p : Position) (xs ys : List Position) → IsAmong ys p → IsAmong (xs ++ ys) p
 among_right p xs ys h = let some_one : 0 < places p ys = h in let e = places_append p xs ys in omega arith
 
-among_spine : (n low level : ℕ) → low ≤ level → level < low + n → IsAmong (map spine_position (range_with_len low n)) (spine_position level)
+pub among_spine : (n low level : ℕ) → low ≤ level → level < low + n → IsAmong (map spine_position (range_with_len low n)) (spine_position level)
 among_spine zero low level a b = absurd (omega arith)
 among_spine (suc n) low level a b = dite (ℕ_discrete level low)
     (λ e. subst (λ (k : ℕ). IsAmong (map spine_position (range_with_len low (suc n))) (spine_position k)) (sym e)

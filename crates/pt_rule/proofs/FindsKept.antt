@@ -22,7 +22,7 @@ use Rattle.pt_view.specs.Calls.{meets_span}
 use Rattle.pt_view.specs.Views.{SameRange}
 use Rattle.pt_rule.specs.Totals.{total, prepares, has_table, is_prepared}
 use Rattle.pt_rule.specs.Linked.{is_in_tree}
-use Rattle.pt_rule.specs.Lawful.{Lawful, HasPath, InOrder, IsOwnPiece, IsOwnTable}
+use Rattle.pt_rule.specs.Lawful.{Lawful, HasPath, InOrder, IsOwnPiece, IsOwnTable, PiecesInOrder}
 use Rattle.pt_rule.proofs.TotalsKept.{total_same, total_some, total_at, at_inside, all_map}
 use Rattle.pt_rule.proofs.PartsKept.{SameLinks, links_same, SameTree, spans_set, frames_same, positions_same, root_same, parents_same, entries_same, books_set, paths_set, path_same, purses_same, sizes_same, busy_set, known_set}
 
@@ -131,6 +131,7 @@ module _ (f : Layout) (n l : ℕ) where
                   (λ x a. piece_kept f x v w range (omega arith) met.kept (let e : pages_of_table f w.top ≡ pages_of_table f v.top = ap (pages_of_table f) top in omega arith) a) book.pieces);
               tables = met.own;
               in_order = met.in_order;
+              pieces_in_order = subst (PiecesInOrder f) (sym met.pieces) book.pieces_in_order;
               top_low = subst (λ (s : ℕ × ℕ). starting_top s.0 ≤ s.1) (λ i. (sym range.levels i, sym top i)) book.top_low;
               top_high = subst (λ (t : ℕ). t < f.levels) (sym top) book.top_high;
             }) r.books;

@@ -29,7 +29,7 @@ use Rattle.pt_rule.proofs.TotalsKept.{all_map, among_cases, at_inside, bit_false
 use Rattle.pt_rule.proofs.PartsKept.{prepared_moved, prepared_within, prepares_here, spans_set, books_set, busy_set, known_set, purses_same, sizes_same}
 use Rattle.pt_rule.proofs.PositionFacts.{child_of_parent, parent_of_child, slot_below, slot_of_child}
 use Rattle.pt_rule.proofs.PieceFacts.{word_some}
-use Rattle.pt_rule.proofs.TreeFacts.{an_empty, a_piece, a_child, entry_is, is_position, linked_there, level_low, no_words_of, one_frame, piece_home, placed_back, placed_position, table_there, there_position}
+use Rattle.pt_rule.proofs.TreeFacts.{an_empty, a_piece, a_child, entry_is, is_position, linked_there, level_low, no_words_of, one_frame, piece_home, placed_back, prepared_tag, table_there, there_position}
 use Rattle.pt_rule.proofs.TablesAdded.{with_all, with_cases, with_kept, with_new, with_order}
 use Rattle.pt_rule.proofs.FindsKept.{piece_kept, table_kept, tree_found}
 use Rattle.pt_rule.proofs.LookKept.{StandsAt, child_meets, entered, path_more, pointer_facts}
@@ -86,7 +86,7 @@ module _ (f : Layout) (n l : ℕ) (good : IsLayout f) (d : WordsDiffer f) (words
   g_in = prepared_within f n words views id v (record { frame = g; position = child; bridge = None }) r.frames at prepared
 
   g_tag : tag words g ≡ placed_word child
-  g_tag = subst (IsPreparedAt words) prepared (r.frames.at id v at)
+  g_tag = (prepared_tag f good n words views r.frames id v (record { frame = g; position = child; bridge = None }) at prepared).1
 
   g_once : total (prepares g) views ≡ 1
   g_once =
@@ -391,10 +391,7 @@ module _ (f : Layout) (n l : ℕ) (good : IsLayout f) (d : WordsDiffer f) (words
 
   -- the tag of the frame named a position, which is the child
   child_position : IsPosition f child
-  child_position =
-      let t : (q : Position) × IsPosition f q × (tag words g ≡ placed_word q) = placed_position f (tag words g) (r.frames.tags g g_in) (ap is_placed g_tag ∙ placed_is_placed child) in
-      let low : t.0.level < 8 = (let x = t.1.a_level in let y = good.levels_high in omega arith) in
-      subst (IsPosition f) (sym (placed_back t.0 low) ∙ ap placed_at (sym t.2 ∙ g_tag) ∙ placed_back child child_low) t.1
+  child_position = (prepared_tag f good n words views r.frames id v (record { frame = g; position = child; bridge = None }) at prepared).0
 
   books_won : BooksPart f views'
   books_won = books_set f views id v w at
@@ -404,6 +401,7 @@ module _ (f : Layout) (n l : ℕ) (good : IsLayout f) (d : WordsDiffer f) (words
         tables = with_all v.levels v.tables child (IsOwnTable f w) (all_map (IsOwnTable f v) (IsOwnTable f w) v.tables (λ q b. table_kept f q v w range_kept b) book.tables)
             (λ e. record { a_position = child_position; off_spine = e; meets = meets });
         in_order = with_order v.levels v.tables child book.in_order;
+        pieces_in_order = book.pieces_in_order;
         top_low = book.top_low;
         top_high = book.top_high;
       }) r.books

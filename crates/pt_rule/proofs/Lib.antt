@@ -20,6 +20,13 @@ pub mod TablesAdded
 pub mod LookKept
 pub mod PathTables
 pub mod PathOver
+pub mod Ordered
+pub mod PiecesApart
+pub mod Resting
+pub mod ReadTables
+pub mod ReadPiece
+pub mod ReadPieces
+pub mod ReadWhole
 pub mod WriteFacts
 pub mod WriteKept
 pub mod CallsWritten
@@ -27,6 +34,7 @@ pub mod CallsTags
 pub mod CountKept
 pub mod States
 pub mod Spoiled
+pub mod ReadStates
 pub mod FirstSteps
 pub mod SharedState
 pub mod OpeningKept

@@ -172,7 +172,7 @@ module _ (f : Layout) (good : IsLayout f) (n l hold : ℕ) (words : List ℕ) (l
       once = λ i p. omega arith;
       homes = only (λ u. AllByRecursion (λ x. IsTrue (is_in_tree l words views (table_of f x))) u.pieces) v tt;
     };
-    books = only (λ u. 0 < u.count → HasBook f u) v (λ some_page. record { pieces = tt; tables = tt; in_order = tt; top_low = omega arith; top_high = let a = some_level in omega arith });
+    books = only (λ u. 0 < u.count → HasBook f u) v (λ some_page. record { pieces = tt; tables = tt; in_order = tt; pieces_in_order = tt; top_low = omega arith; top_high = let a = some_level in omega arith });
     paths = only (HasPath f n words views) v (record { nodes = tt; begins = tt; descends = tt });
     purses = record { chained = only (λ u. Chained words u.end u.purse) v (chained_counting words 1 hold hold (omega arith) (omega arith) new.held new.last); ends = only (λ u. IsEnd n u.end) v tt };
     sizes = record {

@@ -23,7 +23,7 @@ use Rattle.pt_view.specs.Views.{spent, SameRange, SameBook}
 use Rattle.pt_rule.specs.Totals.{total, covers, holds, prepares, has_table, has_piece, has_word, has_bridge, is_prepared, bridge_in, words_at}
 use Rattle.pt_rule.specs.Tags.{IsEnd, IsTag, Chained, is_held, is_placed}
 use Rattle.pt_rule.specs.Linked.{IsLinked, IsLinkedAt, is_in_tree}
-use Rattle.pt_rule.specs.Lawful.{SpansPart, FramesPart, PositionsPart, RootPart, ParentsPart, EntriesPart, BooksPart, PathsPart, PursesPart, SizesPart, BusyPart, KnownPart, IsPreparedAt, IsBridged, HasBridge, HasBook, IsOwnPiece, IsOwnTable, HasPath, IsOnPath, InOrder, BeginsOnSpine, Descends, slot_of}
+use Rattle.pt_rule.specs.Lawful.{SpansPart, FramesPart, PositionsPart, RootPart, ParentsPart, EntriesPart, BooksPart, PathsPart, PursesPart, SizesPart, BusyPart, KnownPart, IsPreparedAt, IsBridged, HasBridge, HasBook, IsOwnPiece, IsOwnTable, HasPath, IsOnPath, InOrder, BeginsOnSpine, Descends, slot_of, PiecesInOrder}
 use Rattle.pt_model.proofs.Places.{tag_same, tag_else, entry_after_tag}
 use Rattle.pt_rule.proofs.TotalsKept.{total_set, total_at, total_same, total_only, at_inside, each_set, bit_true, in_here, in_more, all_map}
 
@@ -97,7 +97,7 @@ prepared_within f n words views j u x part at e =
 pub prepared_moved : (words words' : List ℕ) (o : Option Prepared) → ((x : Prepared) → o ≡ Some x → tag words' x.frame ≡ tag words x.frame) →
     IsPreparedAt words o → IsPreparedAt words' o
 prepared_moved words words' None tags h = tt
-prepared_moved words words' (Some x) tags h = tags x refl ∙ h
+prepared_moved words words' (Some x) tags h = ap placed_at (tags x refl) ∙ h
 
 -- a frame of a purse is one of the space
 pub purse_within : (f : Layout) (n : ℕ) (words : List ℕ) (views : List View) (j : ℕ) (u : View) (h : ℕ) → FramesPart f n words views → get_elem? views j ≡ some u → IsIn u.purse h → h < n
@@ -279,6 +279,7 @@ book_same f v w range book h = record {
   pieces = subst (AllByRecursion (IsOwnPiece f w)) (sym book.pieces) (all_map (IsOwnPiece f v) (IsOwnPiece f w) v.pieces (λ x a. own_piece f x v w range book a) h.pieces);
   tables = subst (AllByRecursion (IsOwnTable f w)) (sym book.tables) (all_map (IsOwnTable f v) (IsOwnTable f w) v.tables (λ p a. own_table f p v w range a) h.tables);
   in_order = subst InOrder (sym book.tables) h.in_order;
+  pieces_in_order = subst (PiecesInOrder f) (sym book.pieces) h.pieces_in_order;
   top_low = let t = h.top_low in subst (λ (s : ℕ × ℕ). starting_top s.0 ≤ s.1) (λ i. (sym range.levels i, sym book.top i)) t;
   top_high = subst (λ (t : ℕ). t < f.levels) (sym book.top) h.top_high;
 }

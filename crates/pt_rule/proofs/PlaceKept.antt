@@ -4,7 +4,8 @@ use Rattle.std.specs.Prelude.{slice_set, Option, None, Some, ◌==◌, ◌&&◌}
 use Rattle.atomic_table.proofs.Lists.{set_here}
 use Rattle.pt_model.specs.declared.position.Position.{Position}
 use Rattle.pt_model.specs.Layout.{Layout}
-use Rattle.pt_model.specs.Words.{tag, placed_word}
+use Rattle.pt_model.specs.Words.{tag, placed_at, placed_word}
+use Rattle.pt_format.specs.Laws.{IsLayout}
 use Rattle.pt_view.specs.declared.view.View.{View}
 use Rattle.pt_view.specs.declared.view.Prepared.{Prepared}
 use Rattle.pt_view.specs.Lists.{one_if, times, IsIn}
@@ -16,8 +17,9 @@ use Rattle.pt_rule.proofs.TotalsKept.{total_at, at_inside, each_set, times_here,
 use Rattle.pt_rule.proofs.PartsKept.{chained_else, busy_set}
 use Rattle.pt_rule.proofs.TagFacts.{IsHeldBy, held_by, held_unplaced, placed_is, placed_unheld, placed_some, tag_still, unplaced_unlinked, prepared_unlinked, no_bridge}
 use Rattle.pt_rule.proofs.TagKept.{tag_kept}
+use Rattle.pt_rule.proofs.TreeFacts.{placed_back}
 
-module _ (f : Layout) (n l : ℕ) where
+module _ (f : Layout) (n l : ℕ) (good : IsLayout f) where
   pub place_kept : (g : ℕ) (p : Position) → Keeps f n l (place g p)
   place_kept g p words views id v r at live may =
       let rest : List ℕ = may.0.0 in
@@ -48,7 +50,7 @@ module _ (f : Layout) (n l : ℕ) where
               prepared_here = let a = bit_true (is_placed x) (placed_is p) in omega arith;
               prepared_else = λ h ne. bit_false (g == h) (ne_eqb g h (λ e. ne (sym e))) ∙ sym (bare h);
               unprepared = λ j u ne there. by.unprepared j u there;
-              at = here;
+              at = ap placed_at here ∙ placed_back p (let low = may.2.a_level in let high = good.levels_high in omega arith);
               bridged = tt;
               bridge = λ h i. no_bridge ((g == h) && (i == 0)) ∙ sym (ap (bridge_in f h i) may.1);
             })

@@ -83,7 +83,7 @@ module _ (f : Layout) (p : Position) (i : ℕ) (high : 0 < p.level) (below : i <
   end_of_child = ap (λ x. entry_first f p i + x) (sym (entry_is_table f p.level high))
 
 -- what lies at whole multiples of some pages, from one of them and before the next, is that one
-one_multiple : (m n e : ℕ) → m * e ≤ n * e → n * e < m * e + e → n ≡ m
+pub one_multiple : (m n e : ℕ) → m * e ≤ n * e → n * e < m * e + e → n ≡ m
 one_multiple m n e low high = dite (ℕ_discrete n m) (λ s. s) (λ ne. absurd (dite (dec_le n m)
     (λ le. let h = mul-le (n + 1) e m e (omega arith) (omega arith) in
     dite (dec_le e 0) (λ z. omega (arith, high, low)) (λ pos. omega arith))

@@ -181,9 +181,10 @@ shared_lawful = record {
     pieces = (own 0 (omega arith), (own 1 (omega arith), tt));
     tables = (record { a_position = record { a_level = omega arith; a_page = omega arith; aligned = refl }; off_spine = refl; meets = refl }, tt);
     in_order = (tt, tt);
+    pieces_in_order = ((omega arith, tt), (tt, tt));
     top_low = omega arith;
     top_high = omega arith;
-  }) (λ live. record { pieces = tt; tables = tt; in_order = tt; top_low = omega arith; top_high = omega arith }) (λ live. absurd (omega arith));
+  }) (λ live. record { pieces = tt; tables = tt; in_order = tt; pieces_in_order = tt; top_low = omega arith; top_high = omega arith }) (λ live. absurd (omega arith));
   paths = each_view _ (record {
     nodes = (record { at = root_frame_here; near = inl refl }, (record { at = table_here; near = inr refl }, tt));
     begins = refl;

@@ -141,7 +141,7 @@ new_lawful = record {
     once = λ i p. omega arith;
     homes = only _ new_view tt;
   };
-  books = only _ new_view (λ live. record { pieces = tt; tables = tt; in_order = tt; top_low = omega arith; top_high = omega arith });
+  books = only _ new_view (λ live. record { pieces = tt; tables = tt; in_order = tt; pieces_in_order = tt; top_low = omega arith; top_high = omega arith });
   paths = only _ new_view (record { nodes = tt; begins = tt; descends = tt });
   purses = record { chained = only _ new_view (refl, (refl, (refl, tt))); ends = only _ new_view tt };
   sizes = record {
@@ -285,6 +285,7 @@ mapped_lawful = record {
     );
     tables = (record { a_position = record { a_level = omega arith; a_page = omega arith; aligned = refl }; off_spine = refl; meets = refl }, tt);
     in_order = (tt, tt);
+    pieces_in_order = (tt, tt);
     top_low = omega arith;
     top_high = omega arith;
   });

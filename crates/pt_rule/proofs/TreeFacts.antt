@@ -18,6 +18,7 @@ use Rattle.pt_format.specs.Laws.{IsLayout}
 use Rattle.pt_format.specs.Manual.{StepsAgree}
 use Rattle.pt_view.specs.declared.view.View.{View}
 use Rattle.pt_view.specs.declared.view.Piece.{Piece}
+use Rattle.pt_view.specs.declared.view.Prepared.{Prepared}
 use Rattle.pt_view.specs.Lists.{places, IsAmong}
 use Rattle.pt_view.specs.Pieces.{IsOneOf, first_of, table_of, number_of, level_of, word_of}
 use Rattle.pt_view.specs.Views.{spent}
@@ -25,8 +26,9 @@ use Rattle.pt_view.specs.Calls.{entry_first, entry_end, is_under, pieces_at, mee
 use Rattle.pt_rule.specs.Totals.{total, covers, has_table, has_piece, has_word}
 use Rattle.pt_rule.specs.Tags.{IsTag, free, held, placed, held_word, is_placed}
 use Rattle.pt_rule.specs.Linked.{IsLinkedAt, is_in_tree}
-use Rattle.pt_rule.specs.Lawful.{Lawful, IsOwnPiece, has_child}
+use Rattle.pt_rule.specs.Lawful.{Lawful, FramesPart, IsOwnPiece, IsPreparedAt, has_child}
 use Rattle.pt_rule.proofs.TotalsKept.{total_at, total_two, total_some, total_only, same_cases, same_self, bit_le, bit_true, bit_false, all_map}
+use Rattle.pt_rule.proofs.TagFacts.{IsPreparedBy, prepared_by}
 use Rattle.pt_rule.proofs.PositionFacts.{same_position, slot_of_child, parent_of_child, is_child, parent_low, parent_up, end_in_parent, level_within, entry_some}
 use Rattle.pt_rule.proofs.PieceFacts.{number_below, ends_in_block, first_is_entry's, may_be_leaf, is_under_piece, one_here, IsOneAt, no_words, some_at, one_at}
 
@@ -58,6 +60,22 @@ placed_position f word t is = elim t [
     not_held None e = false≢true e
     not_held (Some k) e = let two : (1 + 4 * (k + 1)) % 4 ≡ 2 = eqb-true _ _ e in omega arith
 
+-- a placed tag is the word of the position that it reads as
+pub placed_reads : (f : Layout) → IsLayout f → (word : ℕ) (p : Position) → IsTag f word → IsTrue (is_placed word) → placed_at word ≡ p →
+    IsPosition f p × (word ≡ placed_word p)
+placed_reads f good word p t is reads =
+    let q : (q : Position) × IsPosition f q × (word ≡ placed_word q) = placed_position f word t is in
+    let low : q.0.level < 8 = (let x = q.1.a_level in let y = good.levels_high in omega arith) in
+    let e : q.0 ≡ p = sym (placed_back q.0 low) ∙ ap placed_at (sym q.2) ∙ reads in
+    (subst (IsPosition f) e q.1, q.2 ∙ ap placed_word e)
+
+-- a frame that a view prepares is tagged with the word of the position that the view names, which is one
+pub prepared_tag : (f : Layout) → IsLayout f → (n : ℕ) (words : List ℕ) (views : List View) → FramesPart f n words views → (id : ℕ) (v : View) (x : Prepared) →
+    get_elem? views id ≡ some v → v.prepared ≡ Some x → IsPosition f x.position × (tag words x.frame ≡ placed_word x.position)
+prepared_tag f good n words views part id v x at e =
+    let by : IsPreparedBy n words views id v x.frame = prepared_by f n words views part id v x at e in
+    placed_reads f good (tag words x.frame) x.position (part.tags x.frame by.within) by.placed (subst (IsPreparedAt words) e (part.at id v at))
+
 -- The one piece at an entry, and the view that has it.
 pub record IsOnePiece (f : Layout) (views : List View) (p : Position) (i : ℕ) : Type 0 where
   pub index : ℕ
@@ -75,11 +93,11 @@ pub data IsEntry (f : Layout) (n l : ℕ) (words : List ℕ) (views : List View)
   a_piece : (one : IsOnePiece f views p i) → word ≡ word_of f one.piece → IsEntry f n l words views p i word
   a_child : (h : ℕ) → IsLinkedAt n words views h (child_at f p i) → 0 < p.level → word ≡ f.pointer p.level (frame_address f h) → IsEntry f n l words views p i word
 
-all_both : {X : Type 0} (P Q : X → Type 0) (xs : List X) → AllByRecursion P xs → AllByRecursion Q xs → AllByRecursion (λ x. P x × Q x) xs
+pub all_both : {X : Type 0} (P Q : X → Type 0) (xs : List X) → AllByRecursion P xs → AllByRecursion Q xs → AllByRecursion (λ x. P x × Q x) xs
 all_both P Q [] a b = tt
 all_both P Q (x ∷ xs) a b = ((a.0, b.0), all_both P Q xs a.1 b.1)
 
-all_one_of : (xs : List Piece) → AllByRecursion (IsOneOf xs) xs
+pub all_one_of : (xs : List Piece) → AllByRecursion (IsOneOf xs) xs
 all_one_of [] = tt
 all_one_of (x ∷ xs) = (inl refl, all_map (IsOneOf xs) (IsOneOf (x ∷ xs)) xs (λ y h. inr h) (all_one_of xs))
 
@@ -120,12 +138,7 @@ module _ (f : Layout) (n l : ℕ) (words : List ℕ) (views : List View) (good :
   -- The position of a linked frame.
 
   pub is_position : (g : ℕ) (p : Position) → IsLinkedAt n words views g p → IsPosition f p × (tag words g ≡ placed_word p)
-  is_position g p a =
-      let t : (q : Position) × IsPosition f q × (tag words g ≡ placed_word q) =
-      placed_position f (tag words g) (r.frames.tags g a.is_linked.within) a.is_linked.placed in
-      let low : t.0.level < 8 = (let x = t.1.a_level in let y = good.levels_high in omega arith) in
-      let e : t.0 ≡ p = sym (placed_back t.0 low) ∙ ap placed_at (sym t.2) ∙ a.at in
-      (subst (IsPosition f) e t.1, t.2 ∙ ap placed_word e)
+  is_position g p a = placed_reads f good (tag words g) p (r.frames.tags g a.is_linked.within) a.is_linked.placed a.at
 
   pub one_frame : (g h : ℕ) (p : Position) → IsLinkedAt n words views g p → IsLinkedAt n words views h p → g ≡ h
   one_frame g h p a b = r.positions.distinct g h a.is_linked b.is_linked ((is_position g p a).1 ∙ sym (is_position h p b).1)

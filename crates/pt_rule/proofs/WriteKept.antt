@@ -24,6 +24,7 @@ use Rattle.pt_rule.specs.Linked.{IsLinked, IsLinkedAt, is_in_tree}
 use Rattle.pt_rule.specs.Lawful.{Lawful, EntriesPart, HasBook, IsOnPath, IsOwnPiece, IsOwnTable, slot_of, has_child}
 use Rattle.pt_rule.specs.Kinds.{Keeps, IsLowestIn, WriteTells, write, written}
 use Rattle.pt_model.proofs.Places.{entry_same, entry_else, tag_after_entry, root_after_entry, length_kept}
+use Rattle.pt_rule.proofs.Ordered.{all_with_piece, piece_in_order}
 use Rattle.pt_rule.proofs.TotalsKept.{bit_le, total_same, total_set, each_set, all_map, all_append, all_among, among_all}
 use Rattle.pt_rule.proofs.PartsKept.{SameLinks, links_same, linked_back, SameTree, spans_set, frames_same, positions_same, root_same, parents_same, books_set, paths_set, path_same, purses_same, sizes_same, busy_set, known_set}
 use Rattle.pt_rule.proofs.PositionFacts.{child_of_parent, slot_below}
@@ -36,12 +37,6 @@ use Rattle.pt_rule.proofs.PathOver.{same_over}
 use Rattle.pt_rule.proofs.WriteFacts.{ReachesOver, path_has, linked_here, no_child, no_piece, was_zero, no_word, on_path, reaches}
 
 -- A piece put among others.
-
-pub all_with_piece : (f : Layout) (P : Piece → Type 0) (ys : List Piece) (x : Piece) → AllByRecursion P ys → P x → AllByRecursion P (add_piece f ys x)
-all_with_piece f P [] x all h = (h, tt)
-all_with_piece f P (y ∷ ys) x all h = ⊎_elim
-    (λ (e : nat_le (first_of f y) (first_of f x) ≡ true). rw e (all.0, all_with_piece f P ys x all.1 h))
-    (λ (e : nat_le (first_of f y) (first_of f x) ≡ false). rw e (h, all)) (cases_Bool (nat_le (first_of f y) (first_of f x)))
 
 pub pieces_with : (f : Layout) (p : Position) (i : ℕ) (ys : List Piece) (x : Piece) → pieces_at f p i (add_piece f ys x) ≡ pieces_at f p i (x ∷ []) + pieces_at f p i ys
 pieces_with f p i [] x = omega arith
@@ -179,6 +174,7 @@ module _ (f : Layout) (n l : ℕ) (good : IsLayout f) (words : List ℕ) (views 
         tables = all_among (IsOwnTable f w) w.tables (λ q m. ⊎_elim (λ (was : IsAmong v.tables q). own_table q (among_all (IsOwnTable f v) v.tables old.tables q was))
             (λ (new : IsAmong (off_spine v.levels v.path) q). (on_tables q new).0) (among_adds (off_spine v.levels v.path) v.tables q m));
         in_order = in_order_adds (off_spine v.levels v.path) v.tables old.in_order;
+        pieces_in_order = piece_in_order f v.pieces x old.pieces_in_order;
         top_low = (let a = old.top_low in let t = raised.0 in omega arith);
         top_high = (let a = top_high in let t = raised.2 in omega arith);
       }

@@ -8,13 +8,13 @@ use lib.ListN.{get_elem?}
 use Rattle.pt_model.specs.declared.position.Position.{Position}
 use Rattle.pt_model.specs.Layout.{Layout, IsLegalBlock, input_pages, end_of, pages_of_table}
 use Rattle.pt_model.specs.Tables.{IsPosition, child_at, end_of_table, is_before, is_spine, needed, parent_of, spine_position, starting_top}
-use Rattle.pt_model.specs.Words.{word_count, tag, placed_at, placed_word, entry_of, root_frame, root_level, frame_limit, frame_address}
+use Rattle.pt_model.specs.Words.{word_count, tag, placed_at, entry_of, root_frame, root_level, frame_limit, frame_address}
 use Rattle.pt_view.specs.declared.view.View.{View}
 use Rattle.pt_view.specs.declared.view.Node.{Node}
 use Rattle.pt_view.specs.declared.view.Piece.{Piece}
 use Rattle.pt_view.specs.declared.view.Prepared.{Prepared}
 use Rattle.pt_view.specs.Lists.{one_if, IsIn, IsAmong}
-use Rattle.pt_view.specs.Pieces.{table_of, words_of}
+use Rattle.pt_view.specs.Pieces.{first_of, table_of, words_of}
 use Rattle.pt_view.specs.Calls.{is_in_span, meets_span}
 use Rattle.pt_view.specs.Views.{spent}
 use Rattle.pt_rule.specs.Totals.{total, Each, covers, holds, prepares, has_piece, has_word, has_bridge}
@@ -27,9 +27,11 @@ SpansPart f views = (page : ℕ) → total (covers page) views ≡ one_if (nat_l
 
 -- 2. Frames: each frame is free, or held in exactly one purse, or prepared by exactly one view, or linked;
 -- and all entries of a frame that isn't linked are zero, but for the bridge of a prepared one.
+
+-- a prepared frame's tag reads as the position that the view names, as a linked frame's does
 abbrev pub IsPreparedAt : (words : List ℕ) → Option Prepared → Type 0
 IsPreparedAt words None = Unit {0}
-IsPreparedAt words (Some x) = tag words x.frame ≡ placed_word x.position
+IsPreparedAt words (Some x) = placed_at (tag words x.frame) ≡ x.position
 
 -- a prepared frame's bridge is linked at the spine position under the prepared one
 abbrev pub HasBridge : Layout → (n : ℕ) → List ℕ → List View → (p : Position) → Option ℕ → Type 0
@@ -86,7 +88,8 @@ pub record EntriesPart (f : Layout) (n l : ℕ) (words : List ℕ) (views : List
   pub homes : Each views (λ v. AllByRecursion (λ x. IsTrue (is_in_tree l words views (table_of f x))) v.pieces)
 
 -- 7. Books: a live view's pieces belong to legal blocks of its span and below its top, whose needed
--- positions are its tables and the spine; its tables are in order, off the spine, and meet its span.
+-- positions are its tables and the spine; its tables are in order, off the spine, and meet its span; its pieces
+-- are in order too.
 pub record IsOwnPiece (f : Layout) (v : View) (x : Piece) : Type 0 where
   pub a_part : x.part < words_of f x.block
   pub legal : IsLegalBlock f x.block
@@ -104,10 +107,16 @@ abbrev pub InOrder : List Position → Type 0
 InOrder [] = Unit {0}
 InOrder (p ∷ ps) = AllByRecursion (λ q. IsTrue (is_before p q)) ps × InOrder ps
 
+-- the pieces are in the order of their first pages
+abbrev pub PiecesInOrder : Layout → List Piece → Type 0
+PiecesInOrder f [] = Unit {0}
+PiecesInOrder f (x ∷ xs) = AllByRecursion (λ y. first_of f x ≤ first_of f y) xs × PiecesInOrder f xs
+
 pub record HasBook (f : Layout) (v : View) : Type 0 where
   pub pieces : AllByRecursion (IsOwnPiece f v) v.pieces
   pub tables : AllByRecursion (IsOwnTable f v) v.tables
   pub in_order : InOrder v.tables
+  pub pieces_in_order : PiecesInOrder f v.pieces
   pub top_low : starting_top v.levels ≤ v.top
   pub top_high : v.top < f.levels
 

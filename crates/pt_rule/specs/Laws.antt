@@ -2,12 +2,14 @@
 use Rattle.std.specs.Prelude.{◌≡◌, ℕ, ◌+◌, ◌<◌, ◌≤◌, List, [], ◌∷◌}
 use mathlib.Core.Option.{some}
 use lib.ListN.{get_elem?}
+use Rattle.pt_model.specs.declared.block.Block.{Block}
 use Rattle.pt_model.specs.Layout.{Layout, input_pages}
+use Rattle.pt_model.specs.Book.{IsLawful}
 use Rattle.pt_model.specs.Words.{frame_limit}
 use Rattle.pt_format.specs.Laws.{IsLayout, WordsDiffer}
 use Rattle.pt_format.specs.Manual.{StepsAgree}
 use Rattle.pt_view.specs.declared.view.View.{View}
-use Rattle.pt_view.specs.Views.{linked_of}
+use Rattle.pt_view.specs.Views.{IsAtRest, book_of, linked_of}
 use Rattle.pt_view.specs.Calls.{held_count, HasEveryFrame}
 use Rattle.pt_rule.specs.Lawful.{Lawful}
 use Rattle.pt_rule.specs.Kinds.{Kind, Keeps, KeepsCut}
@@ -41,3 +43,9 @@ WholeIsCounted =
     (f : Layout) → IsLayout f → (n l : ℕ) (words : List ℕ) (views : List View) (id : ℕ) (v : View) → Lawful f n l words views → get_elem? views id ≡ some v →
     v.count ≡ input_pages f →
     (linked_of v + held_count v ≤ n) × (HasEveryFrame v → linked_of v + held_count v ≡ n)
+
+-- the book of a live view at rest is lawful
+abbrev pub BooksAreLawful : Type 0
+BooksAreLawful =
+    (f : Layout) → IsLayout f → (n l : ℕ) (words : List ℕ) (views : List View) (id : ℕ) (v : View) → Lawful f n l words views → get_elem? views id ≡ some v →
+    0 < v.count → (blocks : List Block) → IsAtRest f v blocks → IsLawful f v.levels (book_of v blocks)

@@ -5,3 +5,4 @@ pub mod Lawful
 pub mod Kinds
 pub mod Opening
 pub mod Laws
+pub mod WholeView

@@ -3,10 +3,12 @@
 //! the laws of formats (`pt_format`), and has no code.
 //!
 //! Promised: a new space is lawful; each step keeps the rule, whatever the words and the other views are, and
-//! the number that it finds tells what its kind says; a holder of the whole space is the only one.
+//! the number that it finds tells what its kind says; a holder of the whole space is the only one; the book of a
+//! holder at rest is lawful; the pieces and the tables of a holder of the whole space are read from the words.
 #![tactic(auto)]
 
-ghost use Rattle.pt_rule.specs.Laws.{NewIsLawful, StepsKeep, FrontsKeep, WholeIsAlone, WholeIsCounted};
+ghost use Rattle.pt_rule.specs.Laws.{NewIsLawful, StepsKeep, FrontsKeep, WholeIsAlone, WholeIsCounted, BooksAreLawful};
+ghost use Rattle.pt_rule.specs.WholeView.{WholeIsRead};
 
 /// A new space is lawful, with the one view of the whole space.
 pub fn new_is_lawful()
@@ -34,4 +36,16 @@ pub fn whole_is_alone()
 /// frames, and all of them where every frame is on its busy list.
 pub fn whole_is_counted()
     ensures { WholeIsCounted }
+{}
+
+/// The book of a live view at rest is lawful: its blocks are legal, in order and apart, and have the tables that
+/// they need.
+pub fn books_are_lawful()
+    ensures { BooksAreLawful }
+{}
+
+/// The pieces and the tables of a view of the whole space are those that are read from the words, its top is the
+/// root's level, and its span begins at page 0.
+pub fn whole_is_read()
+    ensures { WholeIsRead }
 {}

@@ -16,7 +16,7 @@ use Rattle.pt_rule.proofs.steps_keep.Goals as goal
 
 kept : (f : Layout) → IsLayout f → WordsDiffer f → StepsAgree f → (n l : ℕ) (k : Kind) → Keeps f n l k
 kept f good d a n l (take frame) = take_kept f n l frame
-kept f good d a n l (place frame p) = place_kept f n l frame p
+kept f good d a n l (place frame p) = place_kept f n l good frame p
 kept f good d a n l (unplace frame) = unplace_kept f n l frame
 kept f good d a n l (free frame) = free_kept f n l frame
 kept f good d a n l (mark frame end) = mark_kept f n l frame end
