@@ -168,6 +168,11 @@ abbrev pub Prepares : Won → (v w : View) → Type 0
 Prepares Yes v w = w.prepared ≡ None
 Prepares Met v w = w.prepared ≡ v.prepared
 
+-- over a lone holder a table that an install meets is one of its book or of the spine
+abbrev pub MeetsOwn : Layout → (number : ℕ) → View → Won → Type 0
+MeetsOwn f number v Yes = Unit {0}
+MeetsOwn f number v Met = (p : Position) → IsEntryAt f v p number → IsAmong v.tables (child_at f p number) ⊎ IsTrue (is_spine v.levels (child_at f p number))
+
 pub record IsInstalled (f : Layout) (tells : Type 0) (number : ℕ) (v : View) (won : Won) (w : View) : Type 0 where
   pub range : SameRange v w
   pub pieces : w.pieces ≡ v.pieces

@@ -7,8 +7,8 @@ ghost use Rattle.pt_view.specs.declared.view.View.{View};
 ghost use Rattle.pt_model.specs.Layout.{input_pages};
 ghost use Rattle.pt_model.specs.declared.block.Block.{Block};
 ghost use Rattle.pt_model.specs.Book.{IsLawful};
-ghost use Rattle.pt_view.specs.Views.{Aside, IsAtRest, book_of};
-ghost use Rattle.pt_view.specs.Calls.{MeetsEntry, MayInstall, MayWrite, Rooted, Went, IsPlaced, IsUnplaced, IsInstalled, IsWritten, IsTaken, IsPrepared, HasEveryFrame, held_count, links, left};
+ghost use Rattle.pt_view.specs.Views.{Aside, IsAtRest, book_of, linked_of};
+ghost use Rattle.pt_view.specs.Calls.{MeetsEntry, MayInstall, MayWrite, Rooted, Went, IsPlaced, IsUnplaced, IsInstalled, MeetsOwn, IsWritten, IsTaken, IsPrepared, HasEveryFrame, held_count, links, left};
 
 use pt_format::Format;
 use pt_num::Span;
@@ -56,7 +56,8 @@ pub trait Holder<F: Format> {
     /// Whether no other live view of its words exists.
     ghost alone: { Self → Type 0 };
 
-    /// The number of linked positions of its words. Clauses speak of it only where the holder is alone.
+    /// The number of linked positions of its words. Clauses speak of it only where the holder is alone: they
+    /// are the tables of its book, the spine up to its top, and the positions that it has set aside.
     ghost linked: { Self → ℕ };
 
     /// Loads the root and goes to its table. Answers the root's level.
@@ -114,7 +115,8 @@ pub trait Holder<F: Format> {
         ensures aside { aside self.new ≡ aside self.old }
         ensures alone { alone self.old → alone self.new }
         ensures linked { alone self.old → linked self.new ≡ linked self.old + links result }
-        ensures installed { IsInstalled F.layout tells number (view self.old) result (view self.new) };
+        ensures installed { IsInstalled F.layout tells number (view self.old) result (view self.new) }
+        ensures met { alone self.old → MeetsOwn F.layout number (view self.old) result };
 
     /// Writes a word of a block into an entry of the path's last table.
     fn write(&mut self, number: u32, word: u64)
@@ -138,6 +140,8 @@ pub trait Holder<F: Format> {
     /// The number of frames in the purse.
     fn purse(&self) -> u32
         ensures count { result ≡ length (view self.now).purse }
+        ensures within { result ≤ (view self.now).frames }
+        ensures book { alone self.now → linked self.now ≡ linked_of (view self.now) + length (aside self.now).positions }
         ensures few { alone self.now → linked self.now + held_count (view self.now) ≤ (view self.now).frames };
 
     /// The number of frames of the space.
