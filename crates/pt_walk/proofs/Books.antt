@@ -21,12 +21,13 @@ use Rattle.pt_view.specs.Lists.{IsAmong, one_if, places}
 use Rattle.pt_view.specs.Pieces.{IsOneOf, all_pieces, first_of, level_of, pieces_of, table_of, words_of}
 use Rattle.pt_view.specs.Views.{IsAtRest, book_of}
 use Rattle.pt_walk.specs.Walks.{HasNowhere, IsFound, IsOwn, IsUnderPiece, OwnsAll}
+use Rattle.pt_walk.specs.Ways.{IsBlockOf}
 use Rattle.pt_walk.proofs.Quotients.{multiple_under, same_position}
 use Rattle.pt_walk.proofs.OverPage.{ends_in_block, size_split}
 
 -- Lists.
 
-among_here : (p : Position) (ps : List Position) → IsAmong (p ∷ ps) p
+pub among_here : (p : Position) (ps : List Position) → IsAmong (p ∷ ps) p
 among_here p ps =
     let b : is_same p p ≡ true = and_from (p.level == p.level) _ (eq-eqb p.level p.level refl) (eq-eqb p.base p.base refl) in
     let e : one_if (is_same p p) + places p ps ≡ 1 + places p ps = ap (λ (t : Bool). one_if t + places p ps) b in omega arith
@@ -36,30 +37,30 @@ contains_among [] p k less e = absurd (omega arith)
 contains_among (q ∷ ps) p zero less e = subst (λ (x : Position). IsAmong (x ∷ ps) p) (sym e) (among_here p ps)
 contains_among (q ∷ ps) p (suc k) less e = let rest : 0 < places p ps = contains_among ps p k (omega arith) e in omega arith
 
-one_of_either : (xs ys : List Piece) (x : Piece) → IsOneOf (xs ++ ys) x → IsOneOf xs x ⊎ IsOneOf ys x
+pub one_of_either : (xs ys : List Piece) (x : Piece) → IsOneOf (xs ++ ys) x → IsOneOf xs x ⊎ IsOneOf ys x
 one_of_either [] ys x h = inr h
 one_of_either (y ∷ xs) ys x (inl e) = inl (inl e)
 one_of_either (y ∷ xs) ys x (inr h) = ⊎_elim (λ a. inl (inr a)) (λ b. inr b) (one_of_either xs ys x h)
 
-one_of_left : (xs ys : List Piece) (x : Piece) → IsOneOf xs x → IsOneOf (xs ++ ys) x
+pub one_of_left : (xs ys : List Piece) (x : Piece) → IsOneOf xs x → IsOneOf (xs ++ ys) x
 one_of_left [] ys x h = absurd h
 one_of_left (y ∷ xs) ys x (inl e) = inl e
 one_of_left (y ∷ xs) ys x (inr h) = inr (one_of_left xs ys x h)
 
-one_of_right : (xs ys : List Piece) (x : Piece) → IsOneOf ys x → IsOneOf (xs ++ ys) x
+pub one_of_right : (xs ys : List Piece) (x : Piece) → IsOneOf ys x → IsOneOf (xs ++ ys) x
 one_of_right [] ys x h = h
 one_of_right (y ∷ xs) ys x h = inr (one_of_right xs ys x h)
 
-abbrev piece_at : Block → ℕ → Piece
+abbrev pub piece_at : Block → ℕ → Piece
 piece_at b part = record { block = b; part = part }
 
 -- a piece of a run of parts has its block and one of them
-part_of : (b : Block) (n low : ℕ) (x : Piece) → IsOneOf (map (piece_at b) (range_with_len low n)) x → (k : ℕ) × (k < low + n) × (piece_at b k ≡ x)
+pub part_of : (b : Block) (n low : ℕ) (x : Piece) → IsOneOf (map (piece_at b) (range_with_len low n)) x → (k : ℕ) × (k < low + n) × (piece_at b k ≡ x)
 part_of b zero low x h = absurd h
 part_of b (suc n) low x (inl e) = (low, omega arith, e)
 part_of b (suc n) low x (inr h) = let r : (k : ℕ) × (k < low + 1 + n) × (piece_at b k ≡ x) = part_of b n (low + 1) x h in (r.0, (let s = r.1 in omega arith), r.2)
 
-is_part : (b : Block) (n low k : ℕ) → low ≤ k → k < low + n → IsOneOf (map (piece_at b) (range_with_len low n)) (piece_at b k)
+pub is_part : (b : Block) (n low k : ℕ) → low ≤ k → k < low + n → IsOneOf (map (piece_at b) (range_with_len low n)) (piece_at b k)
 is_part b zero low k from to = absurd (omega arith)
 is_part b (suc n) low k from to = elim (cases_eq low k) [
   | inl e ↦ inl (ap (piece_at b) e)
@@ -70,7 +71,7 @@ is_part b (suc n) low k from to = elim (cases_eq low k) [
     cases_eq a c = dite (ℕ_discrete a c) (λ e. inl e) (λ ne. inr ne)
 
 -- a piece of a book's is one of a block of it
-in_blocks : (f : Layout) (bs : List Block) (x : Piece) → IsOneOf (all_pieces f bs) x → Contains bs x.block × (x.part < words_of f x.block)
+pub in_blocks : (f : Layout) (bs : List Block) (x : Piece) → IsOneOf (all_pieces f bs) x → Contains bs x.block × (x.part < words_of f x.block)
 in_blocks f [] x h = absurd h
 in_blocks f (b ∷ bs) x h = ⊎_elim
     (λ (a : IsOneOf (pieces_of f b) x). let r : (k : ℕ) × (k < 0 + words_of f b) × (piece_at b k ≡ x) = part_of b (words_of f b) 0 x a in
@@ -135,7 +136,7 @@ owns_all f good v blocks levels rest lawful = λ x member.
 
 -- What a book says of a page.
 
-find_here : (page : ℕ) (bs : List Block) (b : Block) (k : ℕ) → AllPairs (λ c d. end_of c ≤ d.first) bs → k < length bs → slice_index_or bs k b ≡ b →
+pub find_here : (page : ℕ) (bs : List Block) (b : Block) (k : ℕ) → AllPairs (λ c d. end_of c ≤ d.first) bs → k < length bs → slice_index_or bs k b ≡ b →
     b.first ≤ page → page < end_of b → find (meets page (page + 1)) bs ≡ Some b
 find_here page [] b k pairs less e low high = absurd (omega arith)
 find_here page (c ∷ bs) b zero pairs less e low high =
@@ -154,7 +155,7 @@ find_here page (c ∷ bs) b (suc k) pairs less e low high =
     ]
 
 -- a block that has a page has a piece that does
-piece_over : (f : Layout) → IsLayout f → (b : Block) (page : ℕ) → b.first ≤ page → page < end_of b → (x : Piece) × IsOneOf (pieces_of f b) x × IsUnderPiece f x page
+pub piece_over : (f : Layout) → IsLayout f → (b : Block) (page : ℕ) → b.first ≤ page → page < end_of b → (x : Piece) × IsOneOf (pieces_of f b) x × IsUnderPiece f x page
 piece_over f good b page low high =
     let level : ℕ = level_of_size f b.log2 in
     let bits : ℕ = f.index * level in
@@ -204,13 +205,12 @@ pub record IsLeafOver (f : Layout) (level word page first : ℕ) (out : ℕ) (pr
   pub word_is : word ≡ f.leaf level log2 out prot part
   pub under : IsUnder f level log2 first part page
 
-pub leaf_of : (f : Layout) → IsLayout f → (v : View) (page level word : ℕ) → OwnsAll f v → (h : IsFound f v page level word) →
-    IsLeafOver f level word page h.piece.block.first h.piece.block.out h.piece.block.prot
-leaf_of f good v page level word owns h =
+-- the block of the piece that was found is the word's
+pub block_found : (f : Layout) → IsLayout f → (v : View) (page level word : ℕ) → OwnsAll f v → (h : IsFound f v page level word) → IsBlockOf f level word page h.piece.block
+block_found f good v page level word owns h =
     let x : Piece = h.piece in
     let own : IsOwn f v x = owns x h.own in
-    let at : IsLeafOver f (level_of f x) word page x.block.first x.block.out x.block.prot = record {
-      log2 = x.block.log2;
+    let at : IsBlockOf f (level_of f x) word page x.block = record {
       part = x.part;
       may = record {
         below = let a = good.sizes_low x.block.log2 own.legal.a_size in let b = good.start_high in omega (arith, a, b);
@@ -228,4 +228,10 @@ leaf_of f good v page level word owns h =
         to = let high = h.has_page.1 in omega arith;
       };
     } in
-    subst (λ (k : ℕ). IsLeafOver f k word page x.block.first x.block.out x.block.prot) (sym h.level_is) at
+    subst (λ (k : ℕ). IsBlockOf f k word page x.block) (sym h.level_is) at
+
+pub leaf_of : (f : Layout) → IsLayout f → (v : View) (page level word : ℕ) → OwnsAll f v → (h : IsFound f v page level word) →
+    IsLeafOver f level word page h.piece.block.first h.piece.block.out h.piece.block.prot
+leaf_of f good v page level word owns h =
+    let b : IsBlockOf f level word page h.piece.block = block_found f good v page level word owns h in
+    record { log2 = h.piece.block.log2; part = b.part; may = b.may; word_is = b.word_is; under = b.under }

@@ -1,5 +1,12 @@
 pub mod Quotients
 pub mod OverPage
+pub mod Loads
 pub mod Descent
+pub mod Ranges
+pub mod Climbs
 pub mod Books
 pub mod Bytes
+pub mod Leaves
+pub mod LeftBlocks
+pub mod WayTables
+pub mod Ways

@@ -1,14 +1,16 @@
 -- The way down to a page, and what a walk leaves as it was.
-use Rattle.std.specs.Prelude.{◌≡◌, ◌⊎◌, ℕ, ◌+◌, ◌-◌, ◌*◌, ◌/◌, ◌%◌, ◌^◌, ◌<◌, ◌≤◌, List, [], ◌∷◌, Some, IsTrue}
+use Rattle.std.specs.Prelude.{◌≡◌, ◌⊎◌, ℕ, ◌+◌, ◌-◌, ◌*◌, ◌/◌, ◌%◌, ◌^◌, ◌<◌, ◌≤◌, ◌==◌, List, [], ◌∷◌, ◌++◌, length, Option, None, Some, IsTrue, if◌then◌else◌, ⊤}
 use Rattle.pt_model.specs.declared.position.Position.{Position}
 use Rattle.pt_model.specs.declared.block.Prot.{Prot}
 use Rattle.pt_model.specs.Layout.{Layout, IsLegalBlock, end_of, input_pages, pages_of_entry, pages_of_table}
-use Rattle.pt_model.specs.Tables.{is_spine, position_over, spine_position}
+use Rattle.pt_model.specs.Tables.{end_of_table, is_spine, position_over, spine_position}
 use Rattle.pt_model.specs.declared.block.Block.{Block}
 use Rattle.pt_model.specs.Pages.{page_at}
 use Rattle.pt_format.specs.Words.{IsUnder, MayBeLeaf}
 use Rattle.pt_view.specs.declared.view.View.{View}
+use Rattle.pt_view.specs.declared.view.Node.{Node}
 use Rattle.pt_view.specs.declared.view.Piece.{Piece}
+use Rattle.pt_view.specs.declared.view.Absence.{Absence}
 use Rattle.pt_view.specs.Lists.{IsAmong, SameFrames}
 use Rattle.pt_view.specs.Pieces.{IsOneOf, first_of, level_of, table_of, word_of, words_of}
 use Rattle.pt_view.specs.Views.{IsAtRest, SameRange, SameBook, SamePurse}
@@ -78,7 +80,15 @@ pub record IsFound (f : Layout) (v : View) (page level word : ℕ) : Type 0 wher
   pub level_is : level ≡ level_of f piece
   pub word_is : word ≡ word_of f piece
 
--- what a walk leaves as it was; it may come to know of more linked positions
+-- the leaf that an entry's word is, where it isn't zero
+abbrev pub leaf_in : (word : ℕ) → Option ℕ
+leaf_in word = if word == 0 then None else Some word
+
+-- what loads showed to be absent comes after what they showed before
+abbrev pub AddsAbsences : (v w : View) → Type 0
+AddsAbsences v w = (facts : List Absence) × (w.absent ≡ v.absent ++ facts)
+
+-- what a walk leaves as it was; it may come to know of more linked positions, and of absent ones
 pub record Walked (tells : Type 0) (v w : View) : Type 0 where
   pub range : SameRange v w
   pub book : SameBook v w
@@ -88,6 +98,7 @@ pub record Walked (tells : Type 0) (v w : View) : Type 0 where
   pub known : (p : Position) → IsAmong v.known p → IsAmong w.known p
   pub taken : tells → w.taken ≡ v.taken
   pub stores : tells → w.stores ≡ v.stores
+  pub absent : tells → AddsAbsences v w
 
 -- the page of an address, where it is one of these
 abbrev pub IsPageIn : Layout → (first count address page : ℕ) → Type 0
@@ -102,3 +113,52 @@ MapsTo f level word page address to =
 -- the holder is at rest, whatever its blocks are
 abbrev pub Rests : Layout → View → Type 0
 Rests f v = (blocks : List Block) × IsAtRest f v blocks
+
+-- Ranges of pages below the path's last table.
+
+-- the path's last table is the one of this level over page `first`, and the pages from there to before `end`
+-- are under it and of the span
+pub record IsOverRange (f : Layout) (v : View) (first end level : ℕ) : Type 0 where
+  pub below : level < f.levels
+  pub over : IsOver f v first level
+  pub some : first < end
+  pub under : end ≤ end_of_table f (position_over f first level)
+  pub in_space : end ≤ input_pages f
+  pub from : v.first ≤ first
+  pub to : end ≤ v.first + v.count
+
+-- no piece of a higher level has a page of a range
+abbrev pub IsClear : Layout → View → (first end level : ℕ) → Type 0
+IsClear f v first end level =
+    (page : ℕ) → first ≤ page → page < end → (x : Piece) → IsOneOf v.pieces x → IsUnderPiece f x page → level_of f x ≤ level
+
+-- no piece has a page of a range
+abbrev pub IsFree : Layout → View → (first end : ℕ) → Type 0
+IsFree f v first end = (page : ℕ) → first ≤ page → page < end → HasNowhere f v page
+
+-- the lowest page of a range that a piece has
+pub record IsLowest (f : Layout) (v : View) (first end page : ℕ) : Type 0 where
+  pub from : first ≤ page
+  pub to : page < end
+  pub piece : Piece
+  pub own : IsOneOf v.pieces piece
+  pub has_page : IsUnderPiece f piece page
+  pub free : IsFree f v first page
+
+-- the nodes are the tables over a page, each a level lower than the one before, the first one below `level`
+abbrev pub IsWayDown : Layout → (page level : ℕ) → List Node → Type 0
+IsWayDown f page level [] = ⊤
+IsWayDown f page level (x ∷ xs) = (x.position ≡ position_over f page (level - 1)) × IsWayDown f page (level - 1) xs
+
+-- the path went down from the table of one level to the one of another over a page
+pub record WentDown (f : Layout) (v w : View) (page level lower : ℕ) : Type 0 where
+  pub nodes : List Node
+  pub path : w.path ≡ v.path ++ nodes
+  pub way : IsWayDown f page level nodes
+  pub so_many : length nodes + lower ≡ level
+  pub over : IsOver f w page lower
+
+-- the tables over a page from one level up to below another are of the book or of the spine
+abbrev pub OwnsOver : Layout → View → (page low high : ℕ) → Type 0
+OwnsOver f v page low high =
+    (level : ℕ) → low ≤ level → level < high → IsAmong v.tables (position_over f page level) ⊎ IsTrue (is_spine v.levels (position_over f page level))

@@ -8,7 +8,7 @@ use pt_format::Format;
 
 /// The log2 of the pages under an entry of a table. A page has 52 bits at most, so 63 stands for all
 /// that is more.
-fn entry_bits<F: Format>(level: u32) -> u32
+pub fn entry_bits<F: Format>(level: u32) -> u32
     requires { level ≤ F.layout.levels }
     ensures { result ≡ min (F.layout.index * level) 63 }
 {
@@ -16,7 +16,7 @@ fn entry_bits<F: Format>(level: u32) -> u32
 }
 
 /// The number of the entry at which the way to a page goes on, in a table of this level.
-pub(crate) fn entry_number<F: Format>(level: u32, page: u64) -> u32
+pub fn entry_number<F: Format>(level: u32, page: u64) -> u32
     requires a_level { level < F.layout.levels }
     requires a_page { page < input_pages F.layout }
     ensures number { result ≡ walks.entry_number F.layout level page }
@@ -33,4 +33,12 @@ pub(crate) fn is_under_spine<F: Format>(level: u32, page: u64) -> bool
     ensures { IsTrue result ↔ (page < pages_of_table F.layout level) }
 {
     page >> entry_bits::<F>(level + 1) == 0
+}
+
+/// The page after the last one under the spine's table of a level; 2^63 where that is more.
+pub(crate) fn spine_end<F: Format>(level: u32) -> u64
+    requires { level < F.layout.levels }
+    ensures { result ≡ min (pages_of_table F.layout level) (2 ^ 63) }
+{
+    1 << entry_bits::<F>(level + 1)
 }

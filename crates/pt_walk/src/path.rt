@@ -1,8 +1,9 @@
 //! The way down to the leaf over a page, and back.
 
 ghost use Rattle.std.specs.Prelude.{◌≡◌, MatchOption, []};
-ghost use Rattle.pt_walk.specs.Walks.{IsAsked, IsGoing, IsStarting, HasNone, HasNowhere, IsFound, Walked};
+ghost use Rattle.pt_walk.specs.Walks.{leaf_in, IsAsked, IsGoing, HasNone, HasNowhere, IsFound, Walked, WentDown};
 
+use crate::climb;
 use crate::numbers::{entry_number, is_under_spine};
 use pt_format::Format;
 use pt_view::{Holder, Seen};
@@ -14,45 +15,29 @@ pub(crate) struct Leaf {
     pub(crate) word: u64,
 }
 
-/// The leaf over a page, where the way to it goes on from the path's last table, of this level. The path
-/// is in the end as it was.
-fn leaf_below<F: Format, H: Holder<F>>(holder: &mut H, page: u64, level: u32) -> Option<Leaf>
+/// Where the way to a page ends: the level of the lowest table, and the word of the entry there, which is
+/// the leaf's, or zero. (Two numbers are handed back in registers, and then the way down is a loop.)
+#[derive(Clone, Copy, Debug, PartialEq, Eq)]
+pub(crate) struct Lowest {
+    level: u32,
+    word: u64,
+}
+
+/// Goes down the way to a page to its end, from the path's last table, of this level.
+fn go_down<F: Format, H: Holder<F>>(holder: &mut H, page: u64, level: u32) -> Lowest
     requires going { IsGoing F.layout (H.view holder.old) page level }
     ensures space { H.space holder.new ≡ H.space holder.old }
     ensures aside { H.aside holder.new ≡ H.aside holder.old }
     ensures alone { H.alone holder.old → H.alone holder.new }
     ensures linked { H.alone holder.old → H.linked holder.new ≡ H.linked holder.old }
     ensures walked { Walked H.tells (H.view holder.old) (H.view holder.new) }
-    ensures path { (H.view holder.new).path ≡ (H.view holder.old).path }
-    ensures found { MatchOption result (HasNone F.layout (H.view holder.old) page level) (λ leaf. IsFound F.layout (H.view holder.old) page leaf.level leaf.word) }
+    ensures down { WentDown F.layout (H.view holder.old) (H.view holder.new) page level result.level }
+    ensures found { MatchOption (leaf_in result.word) (HasNone F.layout (H.view holder.old) page level) (λ word. IsFound F.layout (H.view holder.old) page result.level word) }
 {
-    let number = entry_number::<F>(level, page);
-    match holder.enter(number) {
-        Seen::Empty => None,
-        Seen::Leaf(word) => Some(Leaf { level, word }),
-        Seen::Entered => {
-            let leaf = leaf_below::<F, H>(holder, page, level - 1);
-            holder.leave();
-            leaf
-        }
-    }
-}
-
-/// The leaf over a page, where the path is the root's table alone, of this level.
-fn leaf_from_root<F: Format, H: Holder<F>>(holder: &mut H, page: u64, level: u32) -> Option<Leaf>
-    requires starting { IsStarting F.layout (H.view holder.old) page level }
-    ensures space { H.space holder.new ≡ H.space holder.old }
-    ensures aside { H.aside holder.new ≡ H.aside holder.old }
-    ensures alone { H.alone holder.old → H.alone holder.new }
-    ensures linked { H.alone holder.old → H.linked holder.new ≡ H.linked holder.old }
-    ensures walked { Walked H.tells (H.view holder.old) (H.view holder.new) }
-    ensures path { (H.view holder.new).path ≡ (H.view holder.old).path }
-    ensures found { MatchOption result (HasNowhere F.layout (H.view holder.old) page) (λ leaf. IsFound F.layout (H.view holder.old) page leaf.level leaf.word) }
-{
-    if is_under_spine::<F>(level, page) {
-        leaf_below::<F, H>(holder, page, level)
-    } else {
-        None
+    match holder.enter(entry_number::<F>(level, page)) {
+        Seen::Empty => Lowest { level, word: 0 },
+        Seen::Leaf(word) => Lowest { level, word },
+        Seen::Entered => go_down::<F, H>(holder, page, level - 1),
     }
 }
 
@@ -69,7 +54,18 @@ pub(crate) fn leaf_over<F: Format, H: Holder<F>>(holder: &mut H, page: u64) -> O
     ensures found { MatchOption result (HasNowhere F.layout (H.view holder.old) page) (λ leaf. IsFound F.layout (H.view holder.old) page leaf.level leaf.word) }
 {
     let level = holder.root();
-    let leaf = leaf_from_root::<F, H>(holder, page, level);
-    holder.leave();
-    leaf
+    if !is_under_spine::<F>(level, page) {
+        holder.leave();
+        return None;
+    }
+    let lowest = go_down::<F, H>(holder, page, level);
+    climb::<F, H>(holder, level - lowest.level + 1);
+    if lowest.word == 0 {
+        None
+    } else {
+        Some(Leaf {
+            level: lowest.level,
+            word: lowest.word,
+        })
+    }
 }

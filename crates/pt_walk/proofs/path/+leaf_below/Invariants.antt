@@ -1,4 +1,0 @@
-use Rattle.pt_walk.proofs.path.+leaf_below.Given as goal
-
-abbrev pub decreases-leaf_below : goal.decreases-leaf_below
-decreases-leaf_below g l = l.level

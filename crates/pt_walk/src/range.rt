@@ -1,0 +1,129 @@
+//! Ranges of pages: the table over a whole range, and the lowest mapped page of it.
+
+ghost use Rattle.std.specs.Prelude.{◌≡◌, ◌+◌, ◌-◌, ◌*◌, ◌/◌, ◌^◌, ◌<◌, ◌≤◌, MatchOption, min, length, List, [], ◌++◌};
+ghost use Rattle.pt_model.specs.Layout.{input_pages, pages_of_entry};
+ghost use Rattle.pt_view.specs.Calls.{above};
+ghost use Rattle.pt_view.specs.declared.view.Node.{Node};
+ghost use Rattle.pt_walk.specs.Walks.{IsClear, IsOverRange, IsFree, IsLowest, OwnsAll, OwnsOver, Walked, WentDown};
+
+use crate::numbers::{entry_bits, entry_number};
+use pt_format::Format;
+use pt_view::{Holder, Seen};
+
+/// The page after the last one under the entry over a page, in a table of this level; 2^63 where that is
+/// more.
+pub fn entry_end<F: Format>(level: u32, page: u64) -> u64
+    requires a_level { level < F.layout.levels }
+    requires a_page { page < input_pages F.layout }
+    ensures { result ≡ min ((page / pages_of_entry F.layout level + 1) * pages_of_entry F.layout level) (2 ^ 63) }
+{
+    let bits = entry_bits::<F>(level);
+    ((page >> bits) + 1) << bits
+}
+
+/// Goes down, from the path's last table, of this level, while the range lies under one of its entries,
+/// that names a table, and the level is above `lowest`. Answers the level of the table where it ends.
+pub fn descend<F: Format, H: Holder<F>>(
+    holder: &mut H,
+    level: u32,
+    lowest: u32,
+    first: u64,
+    end: u64,
+) -> u32
+    requires range { IsOverRange F.layout (H.view holder.old) first end level }
+    requires lowest { lowest ≤ level }
+    ensures space { H.space holder.new ≡ H.space holder.old }
+    ensures aside { H.aside holder.new ≡ H.aside holder.old }
+    ensures alone { H.alone holder.old → H.alone holder.new }
+    ensures linked { H.alone holder.old → H.linked holder.new ≡ H.linked holder.old }
+    ensures walked { Walked H.tells (H.view holder.old) (H.view holder.new) }
+    ensures range { IsOverRange F.layout (H.view holder.new) first end result }
+    ensures down { WentDown F.layout (H.view holder.old) (H.view holder.new) first level result }
+    ensures lowest { lowest ≤ result }
+    ensures owned { H.alone holder.old → OwnsOver F.layout (H.view holder.old) first result level }
+    ensures clear { OwnsAll F.layout (H.view holder.old) → IsClear F.layout (H.view holder.old) first end level → IsClear F.layout (H.view holder.new) first end result }
+{
+    if level > lowest && end <= entry_end::<F>(level, first) {
+        match holder.enter(entry_number::<F>(level, first)) {
+            Seen::Entered => descend::<F, H>(holder, level - 1, lowest, first, end),
+            _ => level,
+        }
+    } else {
+        level
+    }
+}
+
+/// Leaves so many tables of the path.
+pub fn climb<F: Format, H: Holder<F>>(holder: &mut H, tables: u32)
+    requires { tables ≤ length (H.view holder.old).path }
+    ensures space { H.space holder.new ≡ H.space holder.old }
+    ensures aside { H.aside holder.new ≡ H.aside holder.old }
+    ensures alone { H.alone holder.old → H.alone holder.new }
+    ensures linked { H.alone holder.old → H.linked holder.new ≡ H.linked holder.old }
+    ensures left { (front nodes : List Node) → (H.view holder.old).path ≡ front ++ nodes → length nodes ≡ tables → H.view holder.new ≡ record (H.view holder.old) { path = front } }
+{
+    for _left in 0..tables {
+        holder.leave();
+    }
+}
+
+/// The lowest mapped page of a range under the path's last table, of this level, where no piece of a higher
+/// level has one of its pages.
+#[cycle(first_below)]
+pub fn first_below<F: Format, H: Holder<F>>(
+    holder: &mut H,
+    level: u32,
+    first: u64,
+    end: u64,
+) -> Option<u64>
+    requires range { IsOverRange F.layout (H.view holder.old) first end level }
+    requires owns { OwnsAll F.layout (H.view holder.old) }
+    ensures space { H.space holder.new ≡ H.space holder.old }
+    ensures aside { H.aside holder.new ≡ H.aside holder.old }
+    ensures alone { H.alone holder.old → H.alone holder.new }
+    ensures linked { H.alone holder.old → H.linked holder.new ≡ H.linked holder.old }
+    ensures walked { Walked H.tells (H.view holder.old) (H.view holder.new) }
+    ensures path { (H.view holder.new).path ≡ (H.view holder.old).path }
+    ensures lowest { IsClear F.layout (H.view holder.old) first end level → MatchOption result (IsFree F.layout (H.view holder.old) first end) (λ page. IsLowest F.layout (H.view holder.old) first end page) }
+{
+    let mut at = first;
+    while at < end {
+        let next = u64::min(entry_end::<F>(level, at), end);
+        let mapped = first_at::<F, H>(holder, level, at, next);
+        if mapped.is_some() {
+            return mapped;
+        }
+        at = next;
+    }
+    None
+}
+
+/// The lowest mapped page of a range under one entry of the path's last table.
+#[cycle(first_below)]
+fn first_at<F: Format, H: Holder<F>>(
+    holder: &mut H,
+    level: u32,
+    first: u64,
+    end: u64,
+) -> Option<u64>
+    requires range { IsOverRange F.layout (H.view holder.old) first end level }
+    requires one { end ≤ (first / pages_of_entry F.layout level + 1) * pages_of_entry F.layout level }
+    requires owns { OwnsAll F.layout (H.view holder.old) }
+    ensures space { H.space holder.new ≡ H.space holder.old }
+    ensures aside { H.aside holder.new ≡ H.aside holder.old }
+    ensures alone { H.alone holder.old → H.alone holder.new }
+    ensures linked { H.alone holder.old → H.linked holder.new ≡ H.linked holder.old }
+    ensures walked { Walked H.tells (H.view holder.old) (H.view holder.new) }
+    ensures path { (H.view holder.new).path ≡ (H.view holder.old).path }
+    ensures lowest { IsClear F.layout (H.view holder.old) first end level → MatchOption result (IsFree F.layout (H.view holder.old) first end) (λ page. IsLowest F.layout (H.view holder.old) first end page) }
+{
+    match holder.enter(entry_number::<F>(level, first)) {
+        Seen::Empty => None,
+        Seen::Leaf(_) => Some(first),
+        Seen::Entered => {
+            let page = first_below::<F, H>(holder, level - 1, first, end);
+            holder.leave();
+            page
+        }
+    }
+}
