@@ -1,10 +1,10 @@
 //! The draw of free frames.
 
-ghost use Rattle.std.specs.Prelude.{◌≡◌, ℕ, ◌+◌, ◌<◌, ◌≤◌, length};
+ghost use Rattle.std.specs.Prelude.{◌≡◌, ◌==◌, ℕ, ◌+◌, ◌<◌, ◌≤◌};
 ghost use Rattle.pt_view.specs.Lists.{AddsFrame, IsIn};
-ghost use Rattle.pt_view.specs.Calls.{HasEveryFrame};
+ghost use Rattle.pt_view.specs.Calls.{HasEveryFrame, Takes, held_count};
 ghost use Rattle.pt_walk.specs.Walks.{Rests};
-ghost use Rattle.pt_sweep.specs.Draws.{Gains, KeepsBook, Finds};
+ghost use Rattle.pt_sweep.specs.Draws.{Gains, GainsInOrder, KeepsBook, Finds, SamePlace};
 
 use pt_format::Format;
 use pt_view::Holder;
@@ -15,21 +15,22 @@ use pt_view::Holder;
 /// It answers less than `count` only where it tried every frame: each was then taken by this call, or
 /// found not free at a step of it.
 pub fn draw<F: Format, H: Holder<F>>(holder: &mut H, count: u32) -> u32
-    requires rest { Rests F.layout (H.view holder.old) }
     ensures space { H.space holder.new ≡ H.space holder.old }
     ensures aside { H.aside holder.new ≡ H.aside holder.old }
     ensures alone { H.alone holder.old → H.alone holder.new }
     ensures linked { H.alone holder.old → H.linked holder.new ≡ H.linked holder.old }
     ensures keeps { KeepsBook (H.view holder.old) (H.view holder.new) }
-    ensures rest { Rests F.layout (H.view holder.new) }
+    ensures place { SamePlace (H.view holder.old) (H.view holder.new) }
+    ensures rest { Rests F.layout (H.view holder.old) → Rests F.layout (H.view holder.new) }
     ensures most { result ≤ count }
     ensures purse { Gains (H.view holder.old).purse (H.view holder.new).purse result }
+    ensures order { GainsInOrder (H.view holder.old).frames (H.view holder.old).purse (H.view holder.new).purse }
     ensures busy { (frame : ℕ) → IsIn (H.view holder.old).busy frame → IsIn (H.view holder.new).busy frame }
     ensures absent { H.tells → (H.view holder.new).absent ≡ (H.view holder.old).absent }
     ensures stores { H.tells → (H.view holder.new).stores ≡ (H.view holder.old).stores }
     ensures every { result < count → HasEveryFrame (H.view holder.new) }
     ensures told { H.tells → Finds (H.view holder.old) (H.view holder.new) (λ frame. (frame < (H.view holder.old).frames) × (result < count)) }
-    ensures all { H.alone holder.old → result < count → H.linked holder.new + length (H.view holder.new).purse ≡ (H.view holder.new).frames }
+    ensures all { H.alone holder.old → result < count → H.linked holder.new + held_count (H.view holder.new) ≡ (H.view holder.new).frames }
 {
     let mut taken = 0;
     for frame in 0..holder.frames() {
@@ -43,21 +44,20 @@ pub fn draw<F: Format, H: Holder<F>>(holder: &mut H, count: u32) -> u32
 
 /// Tries to take a frame, and answers how many were taken.
 fn try_one<F: Format, H: Holder<F>>(holder: &mut H, frame: u32) -> u32
-    requires rest { Rests F.layout (H.view holder.old) }
     requires frame { frame < (H.view holder.old).frames }
     ensures space { H.space holder.new ≡ H.space holder.old }
     ensures aside { H.aside holder.new ≡ H.aside holder.old }
     ensures alone { H.alone holder.old → H.alone holder.new }
     ensures linked { H.alone holder.old → H.linked holder.new ≡ H.linked holder.old }
     ensures keeps { KeepsBook (H.view holder.old) (H.view holder.new) }
-    ensures rest { Rests F.layout (H.view holder.new) }
+    ensures place { SamePlace (H.view holder.old) (H.view holder.new) }
+    ensures rest { Rests F.layout (H.view holder.old) → Rests F.layout (H.view holder.new) }
     ensures one { result ≤ 1 }
-    ensures purse { Gains (H.view holder.old).purse (H.view holder.new).purse result }
+    ensures takes { Takes (result == 1) H.tells frame (H.view holder.old) (H.view holder.new) }
     ensures busy { AddsFrame (H.view holder.old).busy (H.view holder.new).busy frame }
     ensures absent { H.tells → (H.view holder.new).absent ≡ (H.view holder.old).absent }
     ensures stores { H.tells → (H.view holder.new).stores ≡ (H.view holder.old).stores }
-    ensures tried { H.tells → Finds (H.view holder.old) (H.view holder.new) (λ x. x ≡ frame) }
-    ensures all { H.alone holder.old → HasEveryFrame (H.view holder.new) → H.linked holder.new + length (H.view holder.new).purse ≡ (H.view holder.new).frames }
+    ensures all { H.alone holder.old → HasEveryFrame (H.view holder.new) → H.linked holder.new + held_count (H.view holder.new) ≡ (H.view holder.new).frames }
 {
     if holder.take(frame) { 1 } else { 0 }
 }

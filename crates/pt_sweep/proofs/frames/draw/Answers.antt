@@ -2,7 +2,7 @@ use Rattle.std.proofs.Common.{inl, inr, [], ◌∙◌, refl, arith}
 use mathlib.Core.Logic.{dite}
 use native.Mathlib.Decide.{ℕ_discrete}
 use Rattle.pt_view.specs.declared.view.View.{View}
-use Rattle.pt_sweep.proofs.Drawn.{gains_more, keeps_here, keeps_on, finds_none, finds_more}
+use Rattle.pt_sweep.proofs.Drawn.{fall_wider, gains_one, gains_more, keeps_here, keeps_on, place_here, place_on, order_more, told_none, told_more}
 use Rattle.pt_sweep.proofs.frames.draw.Goals as goal
 
 pub loop-frame-init : goal.loop-frame-init
@@ -14,14 +14,16 @@ loop-frame-init g c =
       alone = λ a. a;
       linked = λ a. refl;
       keeps = keeps_here v;
-      rest = c.requires.rest;
+      place = place_here v;
+      rest = λ rests. rests;
       most = omega arith;
       purse = ([], refl, refl);
+      order = ([], refl, tt);
       busy = λ x h. h;
       absent = λ told. refl;
       stores = λ told. refl;
       every = λ x less. absurd (omega arith);
-      told = λ told. finds_none v;
+      told = λ told. told_none v;
       all = λ a some. absurd (omega arith);
     }
 
@@ -32,6 +34,9 @@ loop-frame-preserved g c =
     let w : View = g.H.Holder.view c.try_one-taken.new.holder in
     let i = c.loop-frame.invariant in
     let t = c.try_one-taken.ensures in
+    let tells = g.H.Holder.tells in
+    let frame = c.loop-frame.frame in
+    let won = c.try_one-taken.result in
     let most = i.most in
     let one = t.one in
     record {
@@ -40,13 +45,23 @@ loop-frame-preserved g c =
       alone = λ a. t.alone (i.alone a);
       linked = λ a. t.linked (i.alone a) ∙ i.linked a;
       keeps = keeps_on u v w i.keeps t.keeps;
-      rest = t.rest;
+      place = place_on u v w i.place t.place;
+      rest = λ rests. t.rest (i.rest rests);
       most = (let n = c.if-taken-count.false in omega arith);
-      purse = gains_more u.purse v.purse w.purse c.loop-frame.taken c.try_one-taken.result i.purse t.purse;
+      purse = gains_more u.purse v.purse w.purse c.loop-frame.taken won i.purse (gains_one tells frame won v w one t.takes);
+      order = order_more tells frame won u v w one t.takes i.order;
       busy = λ x h. (t.busy x).1 (inr (i.busy x h));
       absent = λ told. t.absent told ∙ i.absent told;
       stores = λ told. t.stores told ∙ i.stores told;
       every = λ x less. (t.busy x).1 (dite (ℕ_discrete x c.loop-frame.frame) (λ e. inl e) (λ ne. inr (i.every x (omega arith))));
-      told = λ told. finds_more u v w c.loop-frame.frame (i.told told) (t.tried told);
+      told = λ told. told_more tells frame won u v w one t.takes told (i.told told);
       all = λ a some every. t.all (i.alone a) every;
     }
+
+pub returns-then-taken-count-clause-order : goal.returns-then-taken-count-clause-order
+returns-then-taken-count-clause-order g c =
+    let v : View = g.H.Holder.view c.args.holder.now in
+    let frames = c.frames-frame-end.ensures.count in
+    let o = c.loop-frame.invariant.order in
+    let more = c.loop-frame-test.true in
+    (o.0, o.1, fall_wider c.loop-frame.frame v.frames o.0 (omega arith) o.2)

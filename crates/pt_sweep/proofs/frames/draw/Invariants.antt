@@ -1,9 +1,10 @@
-use Rattle.std.proofs.Common.{◌≡◌, ℕ, ◌+◌, ◌<◌, ◌≤◌, length}
+use Rattle.std.proofs.Common.{◌≡◌, ℕ, ◌+◌, ◌<◌, ◌≤◌}
 use Rattle.pt_view.specs.declared.view.View.{View}
 use Rattle.pt_view.specs.Lists.{IsIn}
-use Rattle.pt_view.specs.Calls.{HasEveryFrame}
+use Rattle.pt_view.specs.Calls.{HasEveryFrame, held_count}
 use Rattle.pt_walk.specs.Walks.{Rests}
-use Rattle.pt_sweep.specs.Draws.{Gains, KeepsBook, Finds}
+use Rattle.pt_sweep.specs.Draws.{Gains, GainsInOrder, KeepsBook, SamePlace}
+use Rattle.pt_sweep.proofs.Drawn.{Told}
 use Rattle.pt_sweep.proofs.frames.draw.Given as goal
 
 abbrev pub invariant-loop-frame : goal.invariant-loop-frame
@@ -16,13 +17,15 @@ invariant-loop-frame g l =
       alone : g.H.Holder.alone l.initial.holder → g.H.Holder.alone l.holder;
       linked : g.H.Holder.alone l.initial.holder → g.H.Holder.linked l.holder ≡ g.H.Holder.linked l.initial.holder;
       keeps : KeepsBook v w;
-      rest : Rests g.F.Format.layout w;
+      place : SamePlace v w;
+      rest : Rests g.F.Format.layout v → Rests g.F.Format.layout w;
       most : l.taken ≤ l.fn.count;
       purse : Gains v.purse w.purse l.taken;
+      order : GainsInOrder l.frame v.purse w.purse;
       busy : (x : ℕ) → IsIn v.busy x → IsIn w.busy x;
       absent : g.H.Holder.tells → w.absent ≡ v.absent;
       stores : g.H.Holder.tells → w.stores ≡ v.stores;
       every : (x : ℕ) → x < l.frame → IsIn w.busy x;
-      told : g.H.Holder.tells → Finds v w (λ x. x < l.frame);
-      all : g.H.Holder.alone l.initial.holder → 0 < l.frame → HasEveryFrame w → g.H.Holder.linked l.holder + length w.purse ≡ w.frames;
+      told : g.H.Holder.tells → Told l.frame v w;
+      all : g.H.Holder.alone l.initial.holder → 0 < l.frame → HasEveryFrame w → g.H.Holder.linked l.holder + held_count w ≡ w.frames;
     }
