@@ -9,7 +9,8 @@ use Rattle.pt_model.specs.declared.position.Position.{Position}
 use Rattle.pt_model.specs.Tables.{position_over, spine_position, levels_between, least_top, needed, add_positions}
 use Rattle.pt_model.specs.Tiling.{IsGreatestSize, block_at}
 use Rattle.pt_model.specs.Sets.{Member, IsSorted}
-use Rattle.pt_tile.specs.Counting.{at_level, IsLarger}
+use Rattle.pt_tile.specs.Counting.{at_level}
+use Rattle.pt_tile.specs.Sizes.{IsLarger}
 use Rattle.pt_model.proofs.Positions.{member_adds, sorted_adds, member_level, level_member}
 use Rattle.pt_tile.proofs.Counts.{levels_other, levels_new, levels_again, adds_append}
 use Rattle.pt_tile.proofs.Begun.{begun_at, begun_in, begun_part, part_in, coarse_is_fine, aligned_sum, same_table}

@@ -6,3 +6,4 @@ pub mod Uncovered
 pub mod Tops
 pub mod Levels
 pub mod Needed
+pub mod RunFacts

@@ -12,7 +12,8 @@ use Rattle.pt_model.specs.Tables.{position_over, spine_position, least_top, need
 use Rattle.pt_model.specs.Tiling.{IsTiling, IsGreatestSize, tiling}
 use Rattle.pt_model.proofs.TilingFacts.{tiling_is}
 use Rattle.pt_model.specs.Sets.{Member, IsSorted}
-use Rattle.pt_tile.specs.Counting.{at_level, levels_below, begun, tables_over, IsLarger}
+use Rattle.pt_tile.specs.Counting.{at_level, levels_below, begun, tables_over}
+use Rattle.pt_tile.specs.Sizes.{IsLarger}
 use Rattle.pt_model.proofs.Positions.{member_adds, sorted_adds}
 use Rattle.pt_tile.proofs.Begun.{begun_at, begun_part, coarse_is_fine}
 use Rattle.pt_tile.proofs.Uncovered.{uncovered, uncovered_end, larger_moves, over_is}

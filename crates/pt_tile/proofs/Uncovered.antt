@@ -6,7 +6,8 @@ use Rattle.std.proofs.lemmas.Bool.{cases_eq, cases_lt, lt-ltb, le-ltb}
 use Rattle.pt_model.specs.Layout.{Layout, IsLegal, input_pages, output_pages}
 use Rattle.pt_model.specs.Tiling.{IsGreatestSize}
 use Rattle.pt_tile.specs.declared.tables.Part.{Part}
-use Rattle.pt_tile.specs.Counting.{begun, whole_part, meeting, meeting_around, tables_over, IsLarger}
+use Rattle.pt_tile.specs.Counting.{begun, whole_part, meeting, meeting_around, tables_over}
+use Rattle.pt_tile.specs.Sizes.{IsLarger}
 use Rattle.pt_tile.proofs.Begun.{begun_at, begun_in, begun_part, begun_times, begun_over, begun_mono, part_in, coarse_is_fine, aligned_sum, alike_more, alike_less, runs_below, runs_at_most, times_aligned}
 
 abbrev pub left_around : (t s end : ℕ) → Option Part → ℕ

@@ -1,7 +1,6 @@
 -- What the private functions of `tables` count: positions by level, and tables of one size by the ends of a range. No
 -- public contract speaks of these.
-use Rattle.std.specs.Prelude.{◌≡◌, ℕ, zero, suc, ◌+◌, ◌-◌, ◌*◌, ◌/◌, ◌%◌, ◌^◌, ◌<◌, ◌≤◌, ◌==◌, nat_lt, if◌then◌else◌, IsTrue, List, [], ◌∷◌, Option, Some, None, option_and_then, ◌⊎◌}
-use Rattle.pt_model.specs.Layout.{Layout, is_size}
+use Rattle.std.specs.Prelude.{◌≡◌, ℕ, zero, suc, ◌+◌, ◌-◌, ◌*◌, ◌/◌, ◌^◌, ◌<◌, ◌≤◌, ◌==◌, nat_lt, if◌then◌else◌, List, [], ◌∷◌, Option, Some, None, option_and_then, ◌⊎◌}
 use Rattle.pt_model.specs.declared.position.Position.{Position}
 use Rattle.pt_tile.specs.declared.tables.Part.{Part}
 
@@ -38,14 +37,6 @@ meeting_around log2 first end (Some part) = meeting log2 first part.first + meet
 
 abbrev pub tables_over : (log2 first end : ℕ) → Option ℕ → ℕ
 tables_over log2 first end larger = meeting_around log2 first end (option_and_then (λ size. whole_part size first end) larger)
-
--- the least size from 2 ^ log2 pages on by which blocks can take up a part of a range, if there is one: it is a size of the
--- format, and the range and its output lie alike in blocks of that size
-abbrev pub IsLarger : Layout → (log2 first out : ℕ) → Option ℕ → Type 0
-IsLarger f log2 first out None = (k : ℕ) → IsTrue (is_size f k) → first % 2 ^ k ≡ out % 2 ^ k → k < log2
-IsLarger f log2 first out (Some size) =
-    IsTrue (is_size f size) × (log2 ≤ size) × (first % 2 ^ size ≡ out % 2 ^ size)
-    × ((k : ℕ) → IsTrue (is_size f k) → log2 ≤ k → size ≤ k)
 
 -- whether the position of page 0 at a level is in the tree and does not lie over a range, as a number
 abbrev pub IsApart : (levels level first table : ℕ) → ℕ → Type 0

@@ -1,8 +1,8 @@
 //! The block sizes of a format.
 
-ghost use Rattle.std.specs.Prelude.{◌≡◌, ℕ, ◌+◌, ◌<◌, ◌≤◌, ◌↔◌, IsTrue, IsBitSet};
+ghost use Rattle.std.specs.Prelude.{◌≡◌, ℕ, ◌+◌, ◌%◌, ◌^◌, ◌<◌, ◌≤◌, ◌↔◌, IsTrue, IsBitSet, IfSome};
 ghost use Rattle.pt_model.specs.Layout.{is_size};
-ghost use Rattle.pt_tile.specs.Sizes.{HasAllSizes, IsLeastFrom};
+ghost use Rattle.pt_tile.specs.Sizes.{HasAllSizes, IsLeastFrom, IsLarger};
 
 use pt_format::Format;
 
@@ -29,5 +29,28 @@ pub fn size_from(sizes: u64, least: u32) -> Option<u32>
         None
     } else {
         Some(least + above.trailing_zeros())
+    }
+}
+
+/// Whether two pages lie alike in runs of `2^log2` pages.
+fn lie_alike(page: u64, other: u64, log2: u32) -> bool
+    requires { log2 < 64 }
+    ensures { IsTrue result ↔ (page % 2 ^ log2 ≡ other % 2 ^ log2) }
+{
+    let inside = (1 << log2) - 1;
+    page & inside == other & inside
+}
+
+/// The least size from `2^log2` pages on by which blocks can take up a part of a range.
+pub fn larger_size<F: Format>(first: u64, out: u64, sizes: u64, log2: u32) -> Option<u32>
+    requires { HasAllSizes F.layout sizes }
+    ensures least { IsLarger F.layout log2 first out result }
+    ensures small { IfSome result (λ size. size < 64) }
+{
+    let size = size_from(sizes, log2)?;
+    if lie_alike(first, out, size) {
+        Some(size)
+    } else {
+        None
     }
 }

@@ -1,15 +1,15 @@
 //! The number of tables that a tiling needs, from the ends of its range and not block by block.
 
-ghost use Rattle.std.specs.Prelude.{◌≡◌, ℕ, ◌+◌, ◌-◌, ◌*◌, ◌/◌, ◌%◌, ◌^◌, ◌<◌, ◌≤◌, ◌≢◌, ◌↔◌, IsTrue, IsBitSet, length, min, IfSome};
+ghost use Rattle.std.specs.Prelude.{◌≡◌, ℕ, ◌+◌, ◌-◌, ◌*◌, ◌/◌, ◌^◌, ◌<◌, ◌≤◌, ◌≢◌, ◌↔◌, IsTrue, IsBitSet, length, min, IfSome};
 ghost use Rattle.pt_model.specs.declared.block.Prot.{Prot};
 ghost use Rattle.pt_model.specs.Layout.{input_pages, output_pages, pages_of_table};
 ghost use Rattle.pt_model.specs.Tables.{all_needed, least_top};
 ghost use Rattle.pt_model.specs.Tiling.{tiling};
-ghost use Rattle.pt_tile.specs.Sizes.{HasAllSizes, IsLeastFrom};
+ghost use Rattle.pt_tile.specs.Sizes.{HasAllSizes};
 ghost use Rattle.pt_tile.specs.Counting as Counting;
-ghost use Rattle.pt_tile.specs.Counting.{at_level, begun, whole_part, IsLarger, IsApart};
+ghost use Rattle.pt_tile.specs.Counting.{at_level, begun, whole_part, IsApart};
 
-use crate::sizes::{all_sizes, size_from};
+use crate::sizes::{all_sizes, larger_size};
 use pt_format::Format;
 use pt_num::Span;
 
@@ -58,29 +58,6 @@ fn whole_part(first: u64, end: u64, log2: u32) -> Option<Part>
     };
     if part.first < part.end {
         Some(part)
-    } else {
-        None
-    }
-}
-
-/// Whether two pages lie alike in runs of `2^log2` pages.
-fn lie_alike(page: u64, other: u64, log2: u32) -> bool
-    requires { log2 < 64 }
-    ensures { IsTrue result ↔ (page % 2 ^ log2 ≡ other % 2 ^ log2) }
-{
-    let inside = (1 << log2) - 1;
-    page & inside == other & inside
-}
-
-/// The least size from `2^log2` pages on by which blocks can take up a part of a range.
-fn larger_size<F: Format>(first: u64, out: u64, sizes: u64, log2: u32) -> Option<u32>
-    requires { HasAllSizes F.layout sizes }
-    ensures least { IsLarger F.layout log2 first out result }
-    ensures small { IfSome result (λ size. size < 64) }
-{
-    let size = size_from(sizes, log2)?;
-    if lie_alike(first, out, size) {
-        Some(size)
     } else {
         None
     }

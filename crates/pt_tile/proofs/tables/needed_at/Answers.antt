@@ -2,7 +2,8 @@ use Rattle.std.proofs.Common.{◌≡◌, ◌+◌, ◌-◌, ◌*◌, ◌<◌, ◌
 use Rattle.std.proofs.lemmas.Bool.{cases_lt, false≢true}
 use Rattle.pt_model.specs.Tables.{least_top, all_needed}
 use Rattle.pt_model.specs.Tiling.{tiling}
-use Rattle.pt_tile.specs.Counting.{tables_over, IsLarger}
+use Rattle.pt_tile.specs.Counting.{tables_over}
+use Rattle.pt_tile.specs.Sizes.{IsLarger}
 use Rattle.pt_model.proofs.Tops.{power_mono}
 use Rattle.pt_tile.proofs.Levels.{size}
 use Rattle.pt_tile.proofs.Needed.{IsRequest, level_counts, needed_below, none_at}

@@ -1,7 +1,7 @@
 use Rattle.std.proofs.Common.{◌%◌, ◌^◌}
 use Rattle.std.proofs.lemmas.Nat.{one_shl, and_mask}
 use Rattle.std.proofs.lemmas.Bool.{eqb-true, eq-eqb}
-use Rattle.pt_tile.proofs.tables.lie_alike.Goals as goal
+use Rattle.pt_tile.proofs.sizes.lie_alike.Goals as goal
 
 pub returns : goal.returns
 returns c =

@@ -1,7 +1,7 @@
 use Rattle.std.proofs.Common.{inl, inr, sym, ◌∙◌}
 use Rattle.std.proofs.lemmas.Bool.{cases_lt, false≢true}
 use Rattle.pt_tile.proofs.Begun.{agree_fewer}
-use Rattle.pt_tile.proofs.tables.larger_size.Goals as goal
+use Rattle.pt_tile.proofs.sizes.larger_size.Goals as goal
 
 pub returns-else-lie_alike : goal.returns-else-lie_alike
 returns-else-lie_alike g c = record {
