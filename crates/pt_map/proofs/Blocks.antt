@@ -1,0 +1,275 @@
+-- The pieces of blocks put among the pieces of a book are those of the blocks put among its blocks.
+use Rattle.std.proofs.Common.{◌≡◌, ℕ, zero, suc, ◌+◌, ◌-◌, ◌*◌, ◌^◌, ◌<◌, ◌≤◌, ◌⊎◌, List, [], ◌∷◌, ◌++◌, true, false, inl, inr, refl, ap, sym, subst, ◌∙◌, arith, append_assoc}
+use Rattle.std.specs.Prelude.{map, filter, not, nat_lt, nat_le, AllPairs, length, slice_index_or}
+use Rattle.std.specs.List.{range_with_len}
+use Rattle.std.proofs.lemmas.Bool.{lt-ltb, le-ltb, le-leb, lt-leb}
+use Rattle.std.proofs.lemmas.List.{append-nil}
+use Rattle.std.proofs.lemmas.Nat.{mul-le, pow-add, pow_pos}
+use Rattle.pt_model.specs.declared.block.Block.{Block}
+use Rattle.pt_model.specs.declared.block.Prot.{Prot}
+use Rattle.pt_model.specs.Layout.{Layout, end_of, level_of_size, pages_of_entry}
+use Rattle.pt_model.specs.Book.{add_blocks}
+use Rattle.pt_model.specs.Tiling.{IsTiling}
+use Rattle.pt_format.specs.Laws.{IsLayout}
+use Rattle.pt_view.specs.declared.view.Piece.{Piece}
+use Rattle.pt_view.specs.Pieces.{add_piece, all_pieces, first_of, pieces_of, words_of}
+use Rattle.pt_walk.proofs.OverPage.{size_split}
+use Rattle.pt_map.specs.Filled.{add_pieces}
+
+-- Pieces by their first pages: each at most at a page, each from a page on, each before a page, and rising from one.
+
+abbrev UpTo : Layout → ℕ → List Piece → Type 0
+UpTo f n [] = Unit {0}
+UpTo f n (x ∷ xs) = (first_of f x ≤ n) × UpTo f n xs
+
+abbrev From : Layout → ℕ → List Piece → Type 0
+From f n [] = Unit {0}
+From f n (x ∷ xs) = (n ≤ first_of f x) × From f n xs
+
+abbrev Under : Layout → ℕ → List Piece → Type 0
+Under f n [] = Unit {0}
+Under f n (x ∷ xs) = (first_of f x < n) × Under f n xs
+
+abbrev Rising : Layout → ℕ → List Piece → Type 0
+Rising f n [] = Unit {0}
+Rising f n (x ∷ xs) = (n ≤ first_of f x) × Rising f (first_of f x) xs
+
+up_to_more : (f : Layout) (m n : ℕ) (xs : List Piece) → m ≤ n → UpTo f m xs → UpTo f n xs
+up_to_more f m n [] le h = tt
+up_to_more f m n (x ∷ xs) le h = (let a = h.0 in omega arith, up_to_more f m n xs le h.1)
+
+up_to_append : (f : Layout) (n : ℕ) (xs ys : List Piece) → UpTo f n xs → UpTo f n ys → UpTo f n (xs ++ ys)
+up_to_append f n [] ys a b = b
+up_to_append f n (x ∷ xs) ys a b = (a.0, up_to_append f n xs ys a.1 b)
+
+from_append : (f : Layout) (n : ℕ) (xs ys : List Piece) → From f n xs → From f n ys → From f n (xs ++ ys)
+from_append f n [] ys a b = b
+from_append f n (x ∷ xs) ys a b = (a.0, from_append f n xs ys a.1 b)
+
+under_more : (f : Layout) (m n : ℕ) (xs : List Piece) → m ≤ n → Under f m xs → Under f n xs
+under_more f m n [] le h = tt
+under_more f m n (x ∷ xs) le h = (let a = h.0 in omega arith, under_more f m n xs le h.1)
+
+under_up_to : (f : Layout) (n : ℕ) (xs : List Piece) → Under f n xs → UpTo f n xs
+under_up_to f n [] h = tt
+under_up_to f n (x ∷ xs) h = (let a = h.0 in omega arith, under_up_to f n xs h.1)
+
+under_append : (f : Layout) (n : ℕ) (xs ys : List Piece) → Under f n xs → Under f n ys → Under f n (xs ++ ys)
+under_append f n [] ys a b = b
+under_append f n (x ∷ xs) ys a b = (a.0, under_append f n xs ys a.1 b)
+
+rising_lower : (f : Layout) (m n : ℕ) (xs : List Piece) → m ≤ n → Rising f n xs → Rising f m xs
+rising_lower f m n [] le h = tt
+rising_lower f m n (x ∷ xs) le h = (let a = h.0 in omega arith, h.1)
+
+rising_from : (f : Layout) (n : ℕ) (xs : List Piece) → Rising f n xs → From f n xs
+rising_from f n [] h = tt
+rising_from f n (x ∷ xs) h = (h.0, rising_from f n xs (rising_lower f n (first_of f x) xs h.0 h.1))
+
+-- a list that rises to a page, and one that rises from there
+rising_append : (f : Layout) (n m : ℕ) (xs ys : List Piece) → n ≤ m → Rising f n xs → UpTo f m xs → Rising f m ys → Rising f n (xs ++ ys)
+rising_append f n m [] ys le a up b = rising_lower f n m ys le b
+rising_append f n m (x ∷ xs) ys le a up b = (a.0, rising_append f (first_of f x) m xs ys up.0 a.1 up.1 b)
+
+-- A rising list put between the pieces before it and those behind it.
+
+put_between : (f : Layout) (hi : ℕ) (xs ys : List Piece) (z : Piece) → UpTo f (first_of f z) xs → From f hi ys → first_of f z < hi →
+    add_piece f (xs ++ ys) z ≡ xs ++ (z ∷ ys)
+put_between f hi [] [] z before after less = refl
+put_between f hi [] (y ∷ ys) z before after less =
+    let later : nat_le (first_of f y) (first_of f z) ≡ false = lt-leb (first_of f y) (first_of f z) (let a = after.0 in omega arith) in rw later refl
+put_between f hi (x ∷ xs) ys z before after less =
+    let earlier : nat_le (first_of f x) (first_of f z) ≡ true = le-leb (first_of f x) (first_of f z) before.0 in
+    rw earlier (ap (λ (zs : List Piece). x ∷ zs) (put_between f hi xs ys z before.1 after less))
+
+puts_between : (f : Layout) (lo hi : ℕ) (zs xs ys : List Piece) → UpTo f lo xs → From f hi ys → Rising f lo zs → Under f hi zs →
+    add_pieces f (xs ++ ys) zs ≡ xs ++ (zs ++ ys)
+puts_between f lo hi [] xs ys before after rising under = refl
+puts_between f lo hi (z ∷ zs) xs ys before after rising under =
+    let up : UpTo f (first_of f z) xs = up_to_more f lo (first_of f z) xs rising.0 before in
+    let here : add_piece f (xs ++ ys) z ≡ (xs ++ z ∷ []) ++ ys = put_between f hi xs ys z up after under.0 ∙ sym (append_assoc xs (z ∷ []) ys) in
+    let wider : UpTo f (first_of f z) (xs ++ z ∷ []) = up_to_append f (first_of f z) xs (z ∷ []) up (omega arith, tt) in
+    ap (λ (ps : List Piece). add_pieces f ps zs) here
+    ∙ puts_between f (first_of f z) hi zs (xs ++ z ∷ []) ys wider after rising.1 under.1
+    ∙ append_assoc xs (z ∷ []) (zs ++ ys)
+
+-- The pieces of a block, and those of a tiling.
+
+abbrev piece_at : Block → ℕ → Piece
+piece_at b part = record { block = b; part = part }
+
+abbrev some_pieces : Block → (low n : ℕ) → List Piece
+some_pieces b low n = map (piece_at b) (range_with_len low n)
+
+next_piece : (f : Layout) (b : Block) (k : ℕ) → first_of f (piece_at b k) ≤ first_of f (piece_at b (k + 1))
+next_piece f b k = omega (arith, mul-le k (pages_of_entry f (level_of_size f b.log2)) (k + 1) (pages_of_entry f (level_of_size f b.log2)) (omega arith) (omega arith))
+
+run_rises : (f : Layout) (b : Block) (n low m : ℕ) → m ≤ first_of f (piece_at b low) → Rising f m (some_pieces b low n)
+run_rises f b zero low m h = tt
+run_rises f b (suc n) low m h = (h, run_rises f b n (low + 1) (first_of f (piece_at b low)) (next_piece f b low))
+
+run_under : (f : Layout) (b : Block) (n low m : ℕ) → b.first + (low + n) * pages_of_entry f (level_of_size f b.log2) ≤ m → Under f m (some_pieces b low n)
+run_under f b zero low m h = tt
+run_under f b (suc n) low m h =
+    let e : ℕ = pages_of_entry f (level_of_size f b.log2) in
+    let le = mul-le (low + 1) e (low + suc n) e (omega arith) (omega arith) in
+    let one : (low + 1) * e ≡ low * e + e = omega arith in
+    let less : b.first + low * e < m = omega (arith, le, one, h, some e (f.index * level_of_size f b.log2) refl) in
+    let same : low + 1 + n ≡ low + suc n = omega arith in
+    (less, run_under f b n (low + 1) m (subst (λ (k : ℕ). b.first + k * e ≤ m) (sym same) h))
+  where
+    some : (e k : ℕ) → e ≡ 2 ^ k → 0 < e
+    some e k same = omega (arith, pow_pos k, same)
+
+module _ (f : Layout) (good : IsLayout f) (b : Block) where
+  block_pages : 2 ^ b.log2 ≡ words_of f b * pages_of_entry f (level_of_size f b.log2)
+  block_pages =
+      let bits : ℕ = f.index * level_of_size f b.log2 in
+      ap (λ k. 2 ^ k) (size_split f.index b.log2 (omega (arith, good.index_is, good.granule_low))) ∙ pow-add 2 (b.log2 - bits) bits
+
+  pieces_rise : (m : ℕ) → m ≤ b.first → Rising f m (pieces_of f b)
+  pieces_rise m h = run_rises f b (words_of f b) 0 m (omega arith)
+
+  pieces_under : (m : ℕ) → end_of b ≤ m → Under f m (pieces_of f b)
+  pieces_under m h =
+      let n : ℕ = words_of f b in
+      let e : ℕ = pages_of_entry f (level_of_size f b.log2) in
+      let same : (0 + n) * e ≡ n * e = omega arith in
+      run_under f b (words_of f b) 0 m (omega (arith, block_pages, same))
+
+-- the pieces of blocks one after the other
+pub all_append : (f : Layout) (cs bs : List Block) → all_pieces f (cs ++ bs) ≡ all_pieces f cs ++ all_pieces f bs
+all_append f [] bs = refl
+all_append f (c ∷ cs) bs = ap (λ (xs : List Piece). pieces_of f c ++ xs) (all_append f cs bs) ∙ sym (append_assoc (pieces_of f c) (all_pieces f cs) (all_pieces f bs))
+
+tiles_rise : (f : Layout) → IsLayout f → (prot : Prot) (s out left : ℕ) (bs : List Block) → IsTiling f prot s out left bs → Rising f s (all_pieces f bs)
+tiles_rise f good prot s out left [] t = tt
+tiles_rise f good prot s out left (b ∷ bs) t =
+    let first : b.first ≡ s = ap (λ (c : Block). c.first) t.0 in
+    let whole = under_up_to f (s + 2 ^ b.log2) (pieces_of f b) (pieces_under f good b (s + 2 ^ b.log2) (omega arith)) in
+    rising_append f s (s + 2 ^ b.log2) (pieces_of f b) (all_pieces f bs) (omega arith) (pieces_rise f good b s (omega arith)) whole
+    (tiles_rise f good prot (s + 2 ^ b.log2) (out + 2 ^ b.log2) (left - 2 ^ b.log2) bs t.2)
+
+tiles_under : (f : Layout) → IsLayout f → (prot : Prot) (s out left : ℕ) (bs : List Block) → IsTiling f prot s out left bs → Under f (s + left) (all_pieces f bs)
+tiles_under f good prot s out left [] t = tt
+tiles_under f good prot s out left (b ∷ bs) t =
+    let first : b.first ≡ s = ap (λ (c : Block). c.first) t.0 in
+    let fits = t.1.fits in
+    let ends : s + 2 ^ b.log2 + (left - 2 ^ b.log2) ≡ s + left = omega arith in
+    under_append f (s + left) (pieces_of f b) (all_pieces f bs) (pieces_under f good b (s + left) (omega arith))
+    (subst (λ (n : ℕ). Under f n (all_pieces f bs)) ends (tiles_under f good prot (s + 2 ^ b.log2) (out + 2 ^ b.log2) (left - 2 ^ b.log2) bs t.2))
+
+-- Blocks by their first pages.
+
+abbrev StartWithin : (lo hi : ℕ) → List Block → Type 0
+StartWithin lo hi [] = Unit {0}
+StartWithin lo hi (b ∷ bs) = (lo ≤ b.first) × (b.first < hi) × StartWithin lo hi bs
+
+tiles_start : (f : Layout) (prot : Prot) (lo s out left : ℕ) (bs : List Block) → lo ≤ s → IsTiling f prot s out left bs → StartWithin lo (s + left) bs
+tiles_start f prot lo s out left [] from t = tt
+tiles_start f prot lo s out left (b ∷ bs) from t =
+    let first : b.first ≡ s = ap (λ (c : Block). c.first) t.0 in
+    let fits = t.1.fits in
+    let ends : s + 2 ^ b.log2 + (left - 2 ^ b.log2) ≡ s + left = omega arith in (
+      omega arith,
+      omega (arith, pow_pos b.log2),
+      subst (λ (n : ℕ). StartWithin lo n bs) ends (tiles_start f prot lo (s + 2 ^ b.log2) (out + 2 ^ b.log2) (left - 2 ^ b.log2) bs (omega arith) t.2),
+    )
+
+-- a test of first pages keeps all blocks, and keeps none
+keeps_all : (n lo hi : ℕ) (bs : List Block) → hi ≤ n → StartWithin lo hi bs → filter (λ (b : Block). nat_lt b.first n) bs ≡ bs
+keeps_all n lo hi [] h w = refl
+keeps_all n lo hi (b ∷ bs) h w =
+    let t : nat_lt b.first n ≡ true = lt-ltb b.first n (let a = w.1 in omega arith) in
+    rw t (ap (λ (cs : List Block). b ∷ cs) (keeps_all n lo hi bs h w.2))
+
+keeps_none : (n lo hi : ℕ) (bs : List Block) → n ≤ lo → StartWithin lo hi bs → filter (λ (b : Block). nat_lt b.first n) bs ≡ []
+keeps_none n lo hi [] h w = refl
+keeps_none n lo hi (b ∷ bs) h w =
+    let t : nat_lt b.first n ≡ false = le-ltb b.first n (let a = w.0 in omega arith) in
+    rw t (keeps_none n lo hi bs h w.2)
+
+others_all : (n lo hi : ℕ) (bs : List Block) → n ≤ lo → StartWithin lo hi bs → filter (λ (b : Block). not (nat_lt b.first n)) bs ≡ bs
+others_all n lo hi [] h w = refl
+others_all n lo hi (b ∷ bs) h w =
+    let t : nat_lt b.first n ≡ false = le-ltb b.first n (let a = w.0 in omega arith) in
+    rw t (ap (λ (cs : List Block). b ∷ cs) (others_all n lo hi bs h w.2))
+
+others_none : (n lo hi : ℕ) (bs : List Block) → hi ≤ n → StartWithin lo hi bs → filter (λ (b : Block). not (nat_lt b.first n)) bs ≡ []
+others_none n lo hi [] h w = refl
+others_none n lo hi (b ∷ bs) h w =
+    let t : nat_lt b.first n ≡ true = lt-ltb b.first n (let a = w.1 in omega arith) in
+    rw t (others_none n lo hi bs h w.2)
+
+adds_none : (bs : List Block) → add_blocks bs [] ≡ bs
+adds_none [] = refl
+adds_none (b ∷ bs) = ap (λ (cs : List Block). b ∷ cs) (adds_none bs)
+
+-- Blocks in order, none of which meets a range.
+
+abbrev pub InOrder : ℕ → List Block → Type 0
+InOrder n [] = Unit {0}
+InOrder n (b ∷ bs) = (n ≤ b.first) × InOrder (end_of b) bs
+
+abbrev pub Apart : (lo hi : ℕ) → List Block → Type 0
+Apart lo hi [] = Unit {0}
+Apart lo hi (b ∷ bs) = ((end_of b ≤ lo) ⊎ (hi ≤ b.first)) × Apart lo hi bs
+
+in_order_lower : (m n : ℕ) (bs : List Block) → m ≤ n → InOrder n bs → InOrder m bs
+in_order_lower m n [] le h = tt
+in_order_lower m n (b ∷ bs) le h = (let a = h.0 in omega arith, h.1)
+
+-- all the pieces of blocks in order begin from a page on
+module _ (f : Layout) (good : IsLayout f) where
+  pieces_from : (n : ℕ) (bs : List Block) → InOrder n bs → From f n (all_pieces f bs)
+  pieces_from n [] h = tt
+  pieces_from n (b ∷ bs) h =
+      let low = h.0 in
+      from_append f n (pieces_of f b) (all_pieces f bs) (rising_from f n (pieces_of f b) (pieces_rise f good b n h.0))
+      (pieces_from n bs (in_order_lower n (end_of b) bs (omega arith) h.1))
+
+  adds_behind : (prot : Prot) (s out left n : ℕ) (new : List Block) → IsTiling f prot s out left new → (old : List Block) (before : List Piece) →
+      InOrder n old → Apart s (s + left) old → UpTo f s before →
+      add_pieces f (before ++ all_pieces f old) (all_pieces f new) ≡ before ++ all_pieces f (add_blocks old new)
+  adds_behind prot s out left n new t [] before order apart up =
+      puts_between f s (s + left) (all_pieces f new) before [] up tt (tiles_rise f good prot s out left new t) (tiles_under f good prot s out left new t)
+      ∙ ap (λ (xs : List Piece). before ++ xs) (append-nil (all_pieces f new))
+  adds_behind prot s out left n new t (b ∷ bs) before order apart up = elim apart.0 [
+    | inl earlier ↦
+        let starts = tiles_start f prot s s out left new (omega arith) t in
+        let low : b.first ≤ s = omega arith in
+        let blocks : add_blocks (b ∷ bs) new ≡ b ∷ add_blocks bs new =
+        ap (λ (cs : List Block). cs ++ (b ∷ add_blocks bs (filter (λ (n : Block). not (nat_lt n.first b.first)) new))) (keeps_none b.first s (s + left) new low starts)
+        ∙ ap (λ (cs : List Block). b ∷ add_blocks bs cs) (others_all b.first s (s + left) new low starts) in
+        let more : UpTo f s (before ++ pieces_of f b) =
+        up_to_append f s before (pieces_of f b) up (under_up_to f s (pieces_of f b) (pieces_under f good b s earlier)) in
+        ap (λ (xs : List Piece). add_pieces f xs (all_pieces f new)) (sym (append_assoc before (pieces_of f b) (all_pieces f bs)))
+        ∙ adds_behind prot s out left (end_of b) new t bs (before ++ pieces_of f b) order.1 apart.1 more
+        ∙ append_assoc before (pieces_of f b) (all_pieces f (add_blocks bs new))
+        ∙ ap (λ (cs : List Block). before ++ all_pieces f cs) (sym blocks)
+    | inr later ↦
+        let starts = tiles_start f prot s s out left new (omega arith) t in
+        let blocks : add_blocks (b ∷ bs) new ≡ new ++ (b ∷ bs) =
+        ap (λ (cs : List Block). cs ++ (b ∷ add_blocks bs (filter (λ (n : Block). not (nat_lt n.first b.first)) new))) (keeps_all b.first s (s + left) new later starts)
+        ∙ ap (λ (cs : List Block). new ++ (b ∷ add_blocks bs cs)) (others_none b.first s (s + left) new later starts)
+        ∙ ap (λ (cs : List Block). new ++ (b ∷ cs)) (adds_none bs) in
+        puts_between f s (s + left) (all_pieces f new) before (all_pieces f (b ∷ bs)) up
+        (pieces_from (s + left) (b ∷ bs) (later, order.1)) (tiles_rise f good prot s out left new t) (tiles_under f good prot s out left new t)
+        ∙ ap (λ (xs : List Piece). before ++ xs) (sym (all_append f new (b ∷ bs)))
+        ∙ ap (λ (cs : List Block). before ++ all_pieces f cs) (sym blocks)
+  ]
+
+  -- the pieces of a tiling put among those of blocks in order that have no page of its range
+  pub adds_pieces : (prot : Prot) (s out left : ℕ) (new old : List Block) → IsTiling f prot s out left new → InOrder 0 old → Apart s (s + left) old →
+      add_pieces f (all_pieces f old) (all_pieces f new) ≡ all_pieces f (add_blocks old new)
+  adds_pieces prot s out left new old t order apart = adds_behind prot s out left 0 new t old [] order apart tt
+
+-- blocks in order, as the book has it
+pub in_order_from : (n : ℕ) (bs : List Block) → ((k : ℕ) (b : Block) → k < length bs → slice_index_or bs k b ≡ b → n ≤ b.first) →
+    AllPairs (λ (b c : Block). end_of b ≤ c.first) bs → InOrder n bs
+in_order_from n [] low pairs = tt
+in_order_from n (b ∷ bs) low pairs = (
+  low 0 b (omega arith) refl,
+  in_order_from (end_of b) bs (λ k c less e. subst (λ (d : Block). end_of b ≤ d.first) e (pairs 0 (suc k) c (omega arith) (omega arith)))
+      (λ i j d a z. pairs (suc i) (suc j) d (omega arith) (omega arith)),
+)

@@ -1,0 +1,333 @@
+-- The positions that the blocks of a part need, by their levels.
+use Rattle.std.proofs.Common.{◌≡◌, ℕ, ◌+◌, ◌-◌, ◌*◌, ◌/◌, ◌%◌, ◌^◌, ◌<◌, ◌≤◌, ◌⊎◌, ◌↔◌, List, [], ◌∷◌, ◌++◌, length, true, refl, ap, sym, subst, ◌∙◌, arith, inl, inr}
+use Rattle.std.specs.Prelude.{IsTrue, filter, map, min, not, nat_lt}
+use Rattle.std.specs.List.{range_with_len}
+use Rattle.std.proofs.lemmas.Bool.{cases_lt, false≢true, ltb-true, lt-ltb, le-ltb}
+use Rattle.std.proofs.Math.Nat.{mul-mod_left}
+use Rattle.std.proofs.lemmas.Nat.{div_below, pow-add, pow_below, pow_pos, mod_below, mul-le, shr-shr, shr_split}
+use Rattle.std.proofs.lemmas.List.Filters.{length-filter_both}
+use Rattle.std.proofs.lemmas.List.FromFn.{length-map-range_with_len}
+use Rattle.pt_model.specs.declared.block.Block.{Block}
+use Rattle.pt_model.specs.declared.block.Prot.{Prot}
+use Rattle.pt_model.specs.declared.position.Position.{Position}
+use Rattle.pt_model.specs.Layout.{Layout, end_of, input_pages, is_size, level_of_size, pages_of_entry, pages_of_table}
+use Rattle.pt_model.specs.Tables.{add_positions, all_needed, end_of_table, least_top, levels_between, needed, position_over, spine_position}
+use Rattle.pt_model.specs.Tiling.{IsTiling, block_at}
+use Rattle.pt_model.specs.Sets.{Member, IsSorted}
+use Rattle.pt_model.proofs.Positions.{level_member, member_adds, member_append, member_filtered, member_left, member_level, member_passes, same_members, sorted_adds, sorted_filter, sorted_levels}
+use Rattle.pt_model.proofs.TilingFacts.{tiling_first, tiling_is}
+use Rattle.pt_model.proofs.Tops.{power_mono, reaches_top, top_low}
+use Rattle.pt_format.specs.Laws.{IsLayout}
+use Rattle.pt_tile.proofs.Levels.{in_levels, levels_in, over_first, size_low}
+use Rattle.pt_tile.proofs.Needed.{all_from}
+use Rattle.pt_walk.proofs.Quotients.{floor_le, multiple_under}
+use Rattle.pt_view.specs.Lists.{IsAmong}
+use Rattle.pt_map.specs.declared.part.Part.{Part}
+use Rattle.pt_map.specs.Parts.{IsPart, needs, needs_below, step, tiles}
+use Rattle.pt_map.proofs.Among.{among_filtered, among_member, member_among}
+use Rattle.pt_map.proofs.Steps.{step_greatest}
+
+-- a block of a list needs a position
+abbrev pub AnyNeeds : Layout → (levels : ℕ) → List Block → Position → Type 0
+AnyNeeds f levels [] p = ⊥
+AnyNeeds f levels (b ∷ bs) p = Member (needed f levels b) p ⊎ AnyNeeds f levels bs p
+
+any_either : (f : Layout) (l : ℕ) (xs ys : List Block) (p : Position) → AnyNeeds f l (xs ++ ys) p → AnyNeeds f l xs p ⊎ AnyNeeds f l ys p
+any_either f l [] ys p h = inr h
+any_either f l (x ∷ xs) ys p h = elim h [
+  | inl m ↦ inl (inl m)
+  | inr more ↦ elim (any_either f l xs ys p more) [ inl a ↦ inl (inr a) | inr b ↦ inr b ]
+]
+
+any_left : (f : Layout) (l : ℕ) (xs ys : List Block) (p : Position) → AnyNeeds f l xs p → AnyNeeds f l (xs ++ ys) p
+any_left f l [] ys p h = absurd h
+any_left f l (x ∷ xs) ys p h = elim h [ inl m ↦ inl m | inr more ↦ inr (any_left f l xs ys p more) ]
+
+any_right : (f : Layout) (l : ℕ) (xs ys : List Block) (p : Position) → AnyNeeds f l ys p → AnyNeeds f l (xs ++ ys) p
+any_right f l [] ys p h = h
+any_right f l (x ∷ xs) ys p h = inr (any_right f l xs ys p h)
+
+-- the members of what all blocks need
+
+from_any : (f : Layout) (l : ℕ) (bs : List Block) (ps : List Position) (p : Position) → Member (all_from f l ps bs) p → Member ps p ⊎ AnyNeeds f l bs p
+from_any f l [] ps p m = inl m
+from_any f l (b ∷ bs) ps p m = elim (from_any f l bs (add_positions ps (needed f l b)) p m) [
+  | inl here ↦ elim ((member_adds (needed f l b) ps p).0 here) [ inl old ↦ inl old | inr new ↦ inr (inl new) ]
+  | inr later ↦ inr (inr later)
+]
+
+any_from : (f : Layout) (l : ℕ) (bs : List Block) (ps : List Position) (p : Position) → Member ps p ⊎ AnyNeeds f l bs p → Member (all_from f l ps bs) p
+any_from f l [] ps p h = elim h [ inl m ↦ m | inr none ↦ absurd none ]
+any_from f l (b ∷ bs) ps p h = any_from f l bs (add_positions ps (needed f l b)) p (elim h [
+  | inl old ↦ inl ((member_adds (needed f l b) ps p).1 (inl old))
+  | inr new ↦ elim new [ inl here ↦ inl ((member_adds (needed f l b) ps p).1 (inr here)) | inr later ↦ inr later ]
+])
+
+pub needs_any : (f : Layout) (l : ℕ) (bs : List Block) (p : Position) → IsAmong (all_needed f l bs) p → AnyNeeds f l bs p
+needs_any f l bs p h = elim (from_any f l bs [] p (among_member (all_needed f l bs) p h)) [ inl none ↦ absurd none | inr any ↦ any ]
+
+pub any_needs : (f : Layout) (l : ℕ) (bs : List Block) (p : Position) → AnyNeeds f l bs p → IsAmong (all_needed f l bs) p
+any_needs f l bs p h = member_among (all_needed f l bs) p (any_from f l bs [] p (inr h))
+
+-- two runs of blocks need what each of them needs
+pub needs_append : (f : Layout) (l : ℕ) (xs ys : List Block) (p : Position) →
+    IsAmong (all_needed f l (xs ++ ys)) p ↔ (IsAmong (all_needed f l xs) p ⊎ IsAmong (all_needed f l ys) p)
+needs_append f l xs ys p = (
+  (λ h. elim (any_either f l xs ys p (needs_any f l (xs ++ ys) p h)) [ inl a ↦ inl (any_needs f l xs p a) | inr b ↦ inr (any_needs f l ys p b) ]),
+  (λ h. any_needs f l (xs ++ ys) p (elim h [
+    | inl a ↦ any_left f l xs ys p (needs_any f l xs p a)
+    | inr b ↦ any_right f l xs ys p (needs_any f l ys p b)
+  ])),
+)
+
+-- what blocks need is in order, and each position is there once
+
+sorted_from : (f : Layout) (l : ℕ) (bs : List Block) (ps : List Position) → IsSorted ps → IsSorted (all_from f l ps bs)
+sorted_from f l [] ps s = s
+sorted_from f l (b ∷ bs) ps s = sorted_from f l bs (add_positions ps (needed f l b)) (sorted_adds (needed f l b) ps s)
+
+pub needs_sorted : (f : Layout) (l : ℕ) (bs : List Block) → IsSorted (all_needed f l bs)
+needs_sorted f l bs = sorted_from f l bs [] tt
+
+-- A block that needs a position, of the tiling of a run of pages.
+pub record IsNeeding (f : Layout) (l first end : ℕ) (p : Position) (b : Block) : Type 0 where
+  pub from : first ≤ b.first
+  pub to : end_of b ≤ end
+  pub a_size : IsTrue (is_size f b.log2)
+  pub needs : Member (needed f l b) p
+
+pub block_needing : (f : Layout) (l : ℕ) (prot : Prot) (bs : List Block) (first out left end : ℕ) (p : Position) → first + left ≡ end → IsTiling f prot first out left bs →
+    AnyNeeds f l bs p → (b : Block) × IsNeeding f l first end p b
+block_needing f l prot [] first out left end p e t h = absurd h
+block_needing f l prot (b ∷ bs) first out left end p e t h =
+    let at : b.first ≡ first = ap (λ (c : Block). c.first) t.0 in
+    let fits : 2 ^ b.log2 ≤ left = t.1.fits in
+    elim h [
+      | inl m ↦ (b, record { from = omega arith; to = omega arith; a_size = t.1.legal.a_size; needs = m })
+      | inr more ↦
+          let r = block_needing f l prot bs (first + 2 ^ b.log2) (out + 2 ^ b.log2) (left - 2 ^ b.log2) end p (omega arith) t.2 more in
+          (r.0, record { from = (let low = r.1.from in omega arith); to = r.1.to; a_size = r.1.a_size; needs = r.1.needs })
+    ]
+
+-- Runs of 2 ^ j pages.
+
+-- two pages of one run
+pub same_run : (first page end j : ℕ) → first ≤ page → page < end → end ≤ (first / 2 ^ j + 1) * 2 ^ j → page / 2 ^ j ≡ first / 2 ^ j
+same_run first page end j from to within =
+    let base : ℕ = first / 2 ^ j * 2 ^ j in
+    let split = shr_split first j in
+    let rest = mod_below first (2 ^ j) (pow_pos j) in
+    let aligned : base % 2 ^ j ≡ 0 = mul-mod_left (first / 2 ^ j) (2 ^ j) in
+    let here : base / 2 ^ j ≡ page / 2 ^ j = multiple_under page j base aligned (omega arith) (omega arith) in
+    let there : base / 2 ^ j ≡ first / 2 ^ j = multiple_under first j base aligned (omega arith) (omega arith) in
+    sym here ∙ there
+
+-- a run ends within the longer one over it
+pub run_ends : (page j over : ℕ) → (page / 2 ^ j + 1) * 2 ^ j ≤ (page / 2 ^ (over + j) + 1) * 2 ^ (over + j)
+run_ends page j over =
+    let m : ℕ = page / 2 ^ (over + j) in
+    let pages : 2 ^ (over + j) ≡ 2 ^ over * 2 ^ j = pow-add 2 over j in
+    let split = shr_split page (over + j) in
+    let rest = mod_below page (2 ^ (over + j)) (pow_pos (over + j)) in
+    let end : (m + 1) * 2 ^ (over + j) ≡ (m + 1) * 2 ^ over * 2 ^ j =
+    ap (λ y. (m + 1) * y) pages ∙ (let g : (m + 1) * (2 ^ over * 2 ^ j) ≡ (m + 1) * 2 ^ over * 2 ^ j = omega arith in g) in
+    let less : page < (m + 1) * 2 ^ over * 2 ^ j = omega arith in
+    let below : page / 2 ^ j < (m + 1) * 2 ^ over = div_below page (2 ^ j) ((m + 1) * 2 ^ over) (pow_pos j) less in
+    let h = mul-le (page / 2 ^ j + 1) (2 ^ j) ((m + 1) * 2 ^ over) (2 ^ j) (omega arith) (omega arith) in omega arith
+
+-- A position lies under the entry over a page, in a table of a level.
+pub record LiesUnder (f : Layout) (level page : ℕ) (p : Position) : Type 0 where
+  pub low : p.level < level
+  pub from : page / pages_of_entry f level * pages_of_entry f level ≤ p.base
+  pub to : end_of_table f p ≤ (page / pages_of_entry f level + 1) * pages_of_entry f level
+
+module _ (f : Layout) (good : IsLayout f) where
+  index_some : 0 < f.index
+  index_some = omega (arith, good.index_is, good.granule_low)
+
+  levels_some : f.levels - 1 + 1 ≡ f.levels
+  levels_some = omega (arith, good.start_low, good.start_high)
+
+  -- the table of the highest level at page 0 is over all pages
+  pub space_in_table : input_pages f ≤ pages_of_table f (f.levels - 1)
+  space_in_table =
+      let bits : f.input - f.granule ≤ f.index * (f.levels - 1 + 1) = rw levels_some (omega (arith, good.has_levels)) in
+      power_mono (f.input - f.granule) (f.index * (f.levels - 1 + 1)) bits
+
+  pub top_is : (end : ℕ) → end ≤ input_pages f → least_top f f.levels end ≡ f.levels - 1
+  top_is end within =
+      let high = reaches_top f f.levels end (f.levels - 1) (omega arith) (omega (arith, space_in_table)) in
+      let low = top_low f f.levels end in omega arith
+
+  pub low_size : (k : ℕ) → IsTrue (is_size f k) → level_of_size f k < f.levels
+  low_size k a = omega (arith, good.sizes_low k a, good.start_high)
+
+  -- A block needs the table over its first page at each level from its own on, and no other.
+  module _ (b : Block) (a_size : IsTrue (is_size f b.log2)) (within : end_of b ≤ input_pages f) where
+    top_last : position_over f b.first (f.levels - 1) ≡ spine_position (f.levels - 1)
+    top_last = over_first f b.first (f.levels - 1) (omega (arith, space_in_table, pow_pos b.log2))
+
+    pub needs_of_block : (p : Position) → Member (needed f f.levels b) p → (level_of_size f b.log2 ≤ p.level) × (p.level < f.levels) × (position_over f b.first p.level ≡ p)
+    needs_of_block p m =
+        let top : least_top f f.levels (end_of b) ≡ f.levels - 1 = top_is (end_of b) within in
+        let some : f.levels - 1 + 1 ≡ f.levels = levels_some in
+        elim (member_append (map (position_over f b.first) (levels_between (level_of_size f b.log2) (least_top f f.levels (end_of b)))) _ p m) [
+          | inl over ↦
+              let h = in_levels (position_over f b.first) (λ i. refl) (level_of_size f b.log2) (least_top f f.levels (end_of b)) p over in
+              (h.0, omega arith, h.2)
+          | inr spine ↦
+              let h = in_levels spine_position (λ i. refl) (f.levels - 1) (least_top f f.levels (end_of b)) p spine in
+              let here : p.level ≡ f.levels - 1 = omega arith in
+              let size = low_size b.log2 a_size in
+              (omega arith, omega arith, ap (position_over f b.first) here ∙ top_last ∙ sym (ap spine_position here) ∙ h.2)
+        ]
+
+    pub block_needs : (k : ℕ) → level_of_size f b.log2 ≤ k → k < f.levels → Member (needed f f.levels b) (position_over f b.first k)
+    block_needs k from to =
+        let top : least_top f f.levels (end_of b) ≡ f.levels - 1 = top_is (end_of b) within in
+        member_left (map (position_over f b.first) (levels_between (level_of_size f b.log2) (least_top f f.levels (end_of b)))) _ (position_over f b.first k)
+        (levels_in (position_over f b.first) (level_of_size f b.log2) (least_top f f.levels (end_of b)) k from (omega arith))
+
+  -- The positions of a part, at each level.
+  module _ (x : Part) (part : IsPart f x) where
+    a_tiling : IsTiling f x.prot x.first x.out (x.end - x.first) (tiles f x)
+    a_tiling = let some = part.some in let input = part.in_input in tiling_is f x.prot x.first x.out (x.end - x.first) good.has_pages (omega arith) part.in_output
+
+    -- a needed position is over the first page of a block of the part
+    pub needs_block : (p : Position) → IsAmong (needs f f.levels x) p → (b : Block) × IsNeeding f f.levels x.first x.end p b
+    needs_block p h = let some = part.some in
+        block_needing f f.levels x.prot (tiles f x) x.first x.out (x.end - x.first) x.end p (omega arith) a_tiling (needs_any f f.levels (tiles f x) p h)
+
+    pub needs_page : (p : Position) → IsAmong (needs f f.levels x) p → (page : ℕ) × (x.first ≤ page) × (page < x.end) × (p.level < f.levels) × (position_over f page p.level ≡ p)
+    needs_page p h =
+        let r = needs_block p h in
+        let input = part.in_input in
+        let from = r.1.from in
+        let to = r.1.to in
+        let b : Block = r.0 in
+        let n = needs_of_block b r.1.a_size (omega arith) p r.1.needs in
+        (b.first, from, (let some = pow_pos b.log2 in omega arith), n.1, n.2)
+
+    -- the tables over its first page are needed from the level of its first block on
+    pub over_needed : (level : ℕ) → step f x < f.index * (level + 1) → level < f.levels → IsAmong (needs f f.levels x) (position_over f x.first level)
+    over_needed level low below =
+        let some = part.some in let input = part.in_input in
+        let top = step_greatest f good x part in
+        let fits : 2 ^ step f x ≤ x.end - x.first = top.fits in
+        let b : Block = block_at x.first (step f x) x.out x.prot in
+        let m : Member (needed f f.levels b) (position_over f x.first level) = block_needs b top.legal.a_size (omega arith) level (size_low f.index (step f x) level index_some low) below in
+        let first = tiling_first f x.prot x.first x.out (x.end - x.first) (step f x) good.has_pages (omega arith) part.in_output top in
+        any_needs f f.levels (tiles f x) (position_over f x.first level)
+        (subst (λ (bs : List Block). AnyNeeds f f.levels bs (position_over f x.first level)) (sym first) (inl m))
+
+    -- Under one table of a level, all needed positions of this level and above are those over the first page.
+    module _ (level : ℕ) (under : x.end ≤ end_of_table f (position_over f x.first level)) where
+      pub same_table : (page high : ℕ) → x.first ≤ page → page < x.end → level ≤ high → position_over f page high ≡ position_over f x.first high
+      same_table page high from to above =
+          let j : ℕ = f.index * (level + 1) in
+          let k : ℕ = f.index * (high + 1) in
+          let wider : j ≤ k = mul-le f.index (level + 1) f.index (high + 1) (omega arith) (omega arith) in
+          let here : page / 2 ^ j ≡ x.first / 2 ^ j = same_run x.first page x.end j from to (omega arith) in
+          let bits : j + (k - j) ≡ k = omega arith in
+          let over : (n : ℕ) → n / 2 ^ j / 2 ^ (k - j) ≡ n / 2 ^ k = λ n. shr-shr n j (k - j) ∙ ap (λ y. n / 2 ^ y) bits in
+          let same : page / 2 ^ k ≡ x.first / 2 ^ k = sym (over page) ∙ ap (λ y. y / 2 ^ (k - j)) here ∙ over x.first in
+          ap (λ y. record { level = high; base = y * 2 ^ k }) same
+
+      pub needs_over : (p : Position) → IsAmong (needs f f.levels x) p → level ≤ p.level → position_over f x.first p.level ≡ p
+      needs_over p h above =
+          let r = needs_page p h in
+          sym (same_table r.0 p.level r.1 r.2 above) ∙ r.4
+
+    -- Under one entry of a table of a level, the needed positions below this level lie under that entry, and the others are
+    -- those over the first page, one a level.
+    module _ (level : ℕ) (below : level < f.levels) (one : x.end ≤ (x.first / pages_of_entry f level + 1) * pages_of_entry f level) where
+      pub in_table : x.end ≤ end_of_table f (position_over f x.first level)
+      in_table =
+          let e : f.index + f.index * level ≡ f.index * (level + 1) = omega arith in
+          let h = run_ends x.first (f.index * level) f.index in
+          let wide : (x.first / 2 ^ (f.index + f.index * level) + 1) * 2 ^ (f.index + f.index * level) ≡ end_of_table f (position_over f x.first level) =
+          ap (λ k. (x.first / 2 ^ k + 1) * 2 ^ k) e ∙ (let g : (x.first / pages_of_table f level + 1) * pages_of_table f level ≡ x.first / pages_of_table f level * pages_of_table f level + pages_of_table f level = omega arith in g) in
+          omega arith
+
+      pub needs_under : (p : Position) → IsAmong (needs f f.levels x) p → p.level < level → LiesUnder f level x.first p
+      needs_under p h low =
+          let r = needs_page p h in
+          let page : ℕ = r.0 in
+          let j : ℕ = f.index * (p.level + 1) in
+          let over : ℕ = f.index * (level - (p.level + 1)) in
+          let bits : over + j ≡ f.index * level =
+          (let h : level - (p.level + 1) + (p.level + 1) ≡ level = omega arith in
+          (let g : f.index * (level - (p.level + 1)) + f.index * (p.level + 1) ≡ f.index * (level - (p.level + 1) + (p.level + 1)) = omega arith in g) ∙ ap (λ y. f.index * y) h) in
+          let base : page / 2 ^ j * 2 ^ j ≡ p.base = ap (λ (q : Position). q.base) r.4 in
+          let same : page / 2 ^ (f.index * level) ≡ x.first / 2 ^ (f.index * level) = same_run x.first page x.end (f.index * level) r.1 r.2 one in
+          let first : page / 2 ^ (over + j) * 2 ^ (over + j) ≡ x.first / pages_of_entry f level * pages_of_entry f level =
+          ap (λ y. page / 2 ^ y * 2 ^ y) bits ∙ ap (λ y. y * pages_of_entry f level) same in
+          let last : (page / 2 ^ (over + j) + 1) * 2 ^ (over + j) ≡ (x.first / pages_of_entry f level + 1) * pages_of_entry f level =
+          ap (λ y. (page / 2 ^ y + 1) * 2 ^ y) bits ∙ ap (λ y. (y + 1) * pages_of_entry f level) same in
+          let a = floor_le page j over in
+          let b = run_ends page j over in
+          record { low = low; from = omega arith; to = omega arith }
+
+      pub below_under : (p : Position) → IsAmong (needs_below f f.levels x level) p → LiesUnder f level x.first p
+      below_under p h =
+          let r = among_filtered (λ q. nat_lt q.level level) (needs f f.levels x) p h in
+          needs_under p r.0 (ltb-true p.level level r.1)
+
+      small_step : step f x ≤ f.index * level
+      small_step =
+          let some = part.some in
+          let fits : 2 ^ step f x ≤ x.end - x.first = (step_greatest f good x part).fits in
+          let split = shr_split x.first (f.index * level) in
+          let few : 2 ^ step f x ≤ pages_of_entry f level = omega arith in
+          elim (cases_lt (f.index * level) (step f x)) [
+            | inl more ↦ absurd (let wide = pow_below (f.index * level) (step f x) more in omega arith)
+            | inr fine ↦ fine
+          ]
+
+      pub high_needed : (k : ℕ) → level ≤ k → k < f.levels → IsAmong (needs f f.levels x) (position_over f x.first k)
+      high_needed k from to =
+          let small = small_step in
+          let some = index_some in
+          let wider : f.index * (level + 1) ≤ f.index * (k + 1) = mul-le f.index (level + 1) f.index (k + 1) (omega arith) (omega arith) in
+          over_needed k (omega arith) to
+
+      high_list : filter (λ p. not (nat_lt p.level level)) (needs f f.levels x) ≡ map (position_over f x.first) (range_with_len level (f.levels - level))
+      high_list = same_members _ _
+          (sorted_filter (λ p. not (nat_lt p.level level)) (needs f f.levels x) (needs_sorted f f.levels (tiles f x)))
+          (sorted_levels (position_over f x.first) (λ i. refl) (f.levels - level) level)
+          (λ p m.
+          let r = member_filtered (λ q. not (nat_lt q.level level)) (needs f f.levels x) p m in
+          let among : IsAmong (needs f f.levels x) p = member_among (needs f f.levels x) p r.0 in
+          let above : level ≤ p.level = not_below p.level level r.1 in
+          let page = needs_page p among in
+          let within : p.level < f.levels = page.3 in
+          subst (λ (q : Position). Member (map (position_over f x.first) (range_with_len level (f.levels - level))) q) (needs_over level in_table p among above)
+          (level_member (position_over f x.first) (f.levels - level) level p.level above (omega arith)))
+          (λ p m.
+          let r = member_level (position_over f x.first) (f.levels - level) level p m in
+          let from = r.1 in let to = r.2 in
+          subst (λ (q : Position). Member (filter (λ o. not (nat_lt o.level level)) (needs f f.levels x)) q) r.3
+          (member_passes (λ o. not (nat_lt o.level level)) (needs f f.levels x) (position_over f x.first r.0)
+          (among_member (needs f f.levels x) (position_over f x.first r.0) (high_needed r.0 from (omega arith)))
+          (ap not (le-ltb r.0 level from))))
+        where
+          not_below : (a b : ℕ) → not (nat_lt a b) ≡ true → b ≤ a
+          not_below a b e = elim (cases_lt a b) [
+            | inl low ↦ absurd (false≢true (sym (ap not (lt-ltb a b low)) ∙ e))
+            | inr fine ↦ fine
+          ]
+
+      -- how many they are
+      pub count_needed : length (needs f f.levels x) ≡ length (needs_below f f.levels x level) + (f.levels - level)
+      count_needed =
+          let both = length-filter_both (λ (p : Position). nat_lt p.level level) (λ (p : Position). not (nat_lt p.level level)) (λ p. refl) (needs f f.levels x) in
+          let high : length (filter (λ (p : Position). not (nat_lt p.level level)) (needs f f.levels x)) ≡ f.levels - level =
+          ap length high_list ∙ length-map-range_with_len (position_over f x.first) level (f.levels - level) in
+          omega arith
+
+      -- the count of all needed positions but one, without those of the levels above this one
+      pub count_below : (n over cap count : ℕ) → n ≡ f.levels → over ≡ f.levels - 1 - level → count ≡ min (cap + over) (length (all_needed f n (tiles f x)) - 1) →
+          (over ≤ count) × (count - over ≡ min cap (length (needs_below f f.levels x level)))
+      count_below n over cap count levels rest is =
+          let all : length (all_needed f n (tiles f x)) ≡ length (needs f f.levels x) = ap (λ m. length (all_needed f m (tiles f x))) levels in
+          let both = count_needed in (omega arith, omega arith)

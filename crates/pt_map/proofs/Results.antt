@@ -1,0 +1,305 @@
+-- What a map answers, from what it did below the table that is over all of its part.
+use Rattle.std.proofs.Common.{◌≡◌, ◌⊎◌, ◌↔◌, ℕ, ◌+◌, ◌-◌, ◌<◌, ◌≤◌, List, [], ◌++◌, false, inl, inr, refl, ap, sym, subst, ◌∙◌, arith, append_assoc}
+use Rattle.std.specs.Prelude.{IsTrue, Option, Some, None, length, map, min, option_map}
+use Rattle.std.proofs.lemmas.Bool.{cases_lt}
+use Rattle.pt_model.specs.declared.block.Block.{Block}
+use Rattle.pt_model.specs.declared.position.Position.{Position}
+use Rattle.pt_model.specs.Layout.{Layout}
+use Rattle.pt_model.specs.Book.{IsLawful, MapRefusal, Occupied, lowest_mapped}
+use Rattle.pt_model.specs.Pages.{byte_at}
+use Rattle.pt_model.specs.Sets.{IsSorted}
+use Rattle.pt_model.specs.Tables.{end_of_table, is_spine, least_top, position_over, starting_top}
+use Rattle.pt_format.specs.Laws.{IsLayout}
+use Rattle.pt_view.specs.declared.view.View.{View}
+use Rattle.pt_view.specs.declared.view.Absence.{Absence}
+use Rattle.pt_view.specs.declared.view.Change.{Change}
+use Rattle.pt_view.specs.declared.view.Change.TheVariants.{Written}
+use Rattle.pt_view.specs.declared.view.Piece.{Piece}
+use Rattle.pt_view.specs.Lists.{IsAmong, IsIn, places}
+use Rattle.pt_view.specs.Pieces.{IsOneOf, all_pieces}
+use Rattle.pt_view.specs.Views.{IsAtRest, SameBook, SameRange, book_of}
+use Rattle.pt_walk.specs.Walks.{AddsAbsences, IsFree, OwnsAll, OwnsOver, Walked}
+use Rattle.pt_walk.proofs.Loads.{adds_absences_on, same_book_on, same_range_on}
+use Rattle.pt_walk.proofs.Ranges.{free_on, lowest_on}
+use Rattle.pt_map.specs.declared.part.Part.{Part}
+use Rattle.pt_map.specs.declared.refused.MapRefused.{MapRefused}
+use Rattle.pt_map.specs.declared.refused.MapRefused.TheVariants as refused
+use Rattle.pt_map.specs.Absent.{Counted, IsMissing, is_shown}
+use Rattle.pt_map.specs.Answers.{AddsToHistory, FindsAbsent, FindsEach, HasNoEmptyTable, IsMapped, IsRefused, IsShortOf, IsWanting, KeepsPurse, WantsFrames, book_after, lacking, refusal_of, request_for, unknown}
+use Rattle.pt_map.specs.Filled.{add_pieces}
+use Rattle.pt_map.specs.Parts.{IsPart, needs, needs_below, tiles}
+use Rattle.pt_map.specs.Requests.{IsRefusedBelow, LacksFrames, MappedBelow}
+use Rattle.pt_map.proofs.Belows.{shown_later}
+use Rattle.pt_map.proofs.Blocks.{Apart, adds_pieces, in_order_from}
+use Rattle.pt_map.proofs.FirstMapped.{first_mapped, free_apart, none_mapped}
+use Rattle.pt_map.proofs.Lacking.{absent_all, absent_few, absent_most, absent_shown, tables_more}
+use Rattle.pt_map.proofs.Needs.{top_is}
+use Rattle.pt_map.proofs.TablesAfter.{full_after, part_tiling, tables_after}
+
+-- the view with its path left
+abbrev pub rested : View → View
+rested w = record w { path = [] }
+
+range_rested : (v w : View) → SameRange v w → SameRange v (rested w)
+range_rested v w r = record { frames = r.frames; levels = r.levels; first = r.first; count = r.count }
+
+book_rested : (v w : View) → SameBook v w → SameBook v (rested w)
+book_rested v w b = record { pieces = b.pieces; tables = b.tables; top = b.top }
+
+-- View v is at rest, d is that at the table over all of the part, of this level.
+pub record Standing (f : Layout) (tells : Type 0) (v d : View) (blocks : List Block) (x : Part) (level : ℕ) : Type 0 where
+  pub rest : IsAtRest f v blocks
+  pub lawful : IsLawful f v.levels (book_of v blocks)
+  pub owns : OwnsAll f v
+  pub sorted : IsSorted v.tables
+  pub full : HasNoEmptyTable f v
+  pub part : IsPart f x
+  pub starts : v.levels ≡ f.levels
+  pub high : starting_top v.levels ≤ v.top
+  pub below : level < f.levels
+  pub walked : Walked tells v d
+
+module _ (f : Layout) (good : IsLayout f) (tells : Type 0) (v d : View) (blocks : List Block) (x : Part) (level : ℕ) (stand : Standing f tells v d blocks x level) where
+  frames_same : d.frames ≡ v.frames
+  frames_same = stand.walked.range.frames
+
+  purse_same : d.purse ≡ v.purse
+  purse_same = stand.walked.purse.purse
+
+  free_here : IsFree f d x.first x.end → IsFree f v x.first x.end
+  free_here free = free_on f v d x.first x.end stand.walked.book free
+
+  missing_here : (p : Position) → IsMissing f d (needs_below f f.levels x level) p → IsMissing f v (needs_below f f.levels x level) p
+  missing_here p m = record {
+    is_needed = m.is_needed;
+    no_table = λ h. m.no_table (subst (λ (ps : List Position). IsAmong ps p) (sym stand.walked.book.tables) h);
+    unknown = λ h. m.unknown (stand.walked.known p h);
+  }
+
+  none_there : IsFree f d x.first x.end → lowest_mapped (book_of v blocks) x.first x.end ≡ None
+  none_there free = none_mapped f good v blocks stand.rest x.first x.end stand.part.some (free_here free)
+
+  -- over a lone holder the positions found absent are the lacking ones
+  all_here : (alone : Type 0) → alone → x.end ≤ end_of_table f (position_over f x.first level) → OwnsOver f d x.first level f.levels → (absent : List Position) →
+      ((p : Position) → places p absent ≤ 1) → ((p : Position) → IsAmong absent p → IsMissing f d (needs_below f f.levels x level) p) →
+      ((p : Position) → IsAmong (needs_below f f.levels x level) p → IsAmong absent p ⊎ IsAmong d.tables p) → length absent ≡ length (lacking f v blocks (request_for x))
+  all_here alone a under over absent once missing all =
+      absent_all f good v blocks x stand.part stand.starts stand.high level stand.below absent once (λ p h. missing_here p (missing p h)) under
+      (λ j from to. elim (over j from to) [
+        | inl there ↦ inl (subst (λ (ps : List Position). IsAmong ps (position_over f x.first j)) stand.walked.book.tables there)
+        | inr spine ↦ inr (subst (λ (l : ℕ). IsTrue (is_spine l (position_over f x.first j))) stand.walked.range.levels spine)
+      ])
+      (λ p h. elim (all p h) [ inl m ↦ inl m | inr t ↦ inr (subst (λ (ps : List Position). IsAmong ps p) stand.walked.book.tables t) ])
+
+  -- so many of the positions that were found absent below the table are so from view v on
+  found : (w : View) (absent : List Position) (count : ℕ) → count ≤ length absent → count ≤ v.frames + 1 → ((p : Position) → places p absent ≤ 1) →
+      ((p : Position) → IsAmong absent p → IsMissing f d (needs_below f f.levels x level) p) →
+      (tells → (facts : List Absence) × (w.absent ≡ d.absent ++ facts) × ((p : Position) → IsAmong absent p → IsTrue (is_shown f facts p))) →
+      FindsAbsent f tells v (rested w) blocks (request_for x) count
+  found w absent count most capped once missing told = record {
+    capped = capped;
+    few = (let s = absent_few f good v blocks x stand.part stand.starts stand.high level stand.below absent once (λ p h. missing_here p (missing p h)) in omega arith);
+    shown = λ t.
+        let first : AddsAbsences v d = stand.walked.absent t in
+        let here = told t in
+        let facts : List Absence = first.0 ++ here.0 in
+        let s = absent_shown f good v blocks x stand.part stand.starts stand.high level stand.below absent once (λ p h. missing_here p (missing p h)) facts
+        (λ p h. shown_later f first.0 here.0 p (here.2 p h)) in
+        (facts, here.1 ∙ ap (λ (xs : List Absence). xs ++ here.0) first.1 ∙ append_assoc v.absent first.0 here.0, omega arith);
+  }
+
+  -- what was met on the way down, and then below the table
+  grew_on : (w : View) → tells → AddsAbsences d w → ((lost : List ℕ) × (w.taken ≡ d.taken ++ lost)) → AddsToHistory v (rested w)
+  grew_on w t facts lost = (
+    (let a = adds_absences_on v d w (stand.walked.absent t) facts in (a.0, a.1)),
+    lost.0,
+    lost.1 ∙ ap (λ (xs : List ℕ). xs ++ lost.0) (stand.walked.taken t),
+  )
+
+  -- The part was mapped.
+  module _ (alone : Type 0) (w : View) (linked : ℕ) (m : MappedBelow f tells alone d w x level linked) where
+    pieces_after : w.pieces ≡ add_pieces f v.pieces (all_pieces f (tiles f x))
+    pieces_after = m.pieces ∙ ap (λ (ps : List Piece). add_pieces f ps (all_pieces f (tiles f x))) stand.walked.book.pieces
+
+    tables_same : (p : Position) → IsAmong w.tables p ↔ (IsAmong v.tables p ⊎ (IsAmong (needs f f.levels x) p × (is_spine v.levels p ≡ false)))
+    tables_same p = (
+      λ h. elim ((m.tables p).0 h) [
+        | inl old ↦ inl (subst (λ (ps : List Position). IsAmong ps p) stand.walked.book.tables old)
+        | inr new ↦ inr (new.0, subst (λ (l : ℕ). is_spine l p ≡ false) stand.walked.range.levels new.1)
+      ],
+      λ h. (m.tables p).1 (elim h [
+        | inl old ↦ inl (subst (λ (ps : List Position). IsAmong ps p) (sym stand.walked.book.tables) old)
+        | inr new ↦ inr (new.0, subst (λ (l : ℕ). is_spine l p ≡ false) (sym stand.walked.range.levels) new.1)
+      ]),
+    )
+
+    sorted_after : IsSorted w.tables
+    sorted_after = m.in_order (subst (λ (ps : List Position). IsSorted ps) (sym stand.walked.book.tables) stand.sorted)
+
+    pub full_mapped : HasNoEmptyTable f w
+    full_mapped = full_after f good v x stand.part w stand.starts stand.full pieces_after (λ p. (tables_same p).0)
+
+    pub accepts : (refusal : Option MapRefusal) → refusal ≡ option_map (λ page. Occupied (byte_at f page)) (lowest_mapped (book_of v blocks) x.first x.end) → refusal ≡ None
+    accepts refusal is = is ∙ ap (λ o. option_map (λ page. Occupied (byte_at f page)) o) (none_there m.free)
+
+    few : length m.absent ≤ length (unknown f v blocks (request_for x))
+    few = absent_few f good v blocks x stand.part stand.starts stand.high level stand.below m.absent m.are_absent.once (λ p h. missing_here p (m.are_absent.missing p h))
+
+    top_stays : v.top ≡ (book_after f v blocks (request_for x)).top
+    top_stays =
+        let some = stand.part.some in let input = stand.part.in_input in
+        let ends : x.first + (x.end - x.first) ≡ x.end = omega arith in
+        let least : least_top f v.levels (x.first + (x.end - x.first)) ≡ f.levels - 1 =
+        ap (λ (l : ℕ). least_top f l (x.first + (x.end - x.first))) stand.starts ∙ ap (least_top f f.levels) ends ∙ top_is f good x.end stand.part.in_input in
+        omega arith
+
+    blocks_after : w.pieces ≡ all_pieces f (book_after f v blocks (request_for x)).blocks
+    blocks_after =
+        let some = stand.part.some in
+        let ends : x.end ≡ x.first + (x.end - x.first) = omega arith in
+        let apart : Apart x.first (x.first + (x.end - x.first)) blocks =
+        subst (λ (n : ℕ). Apart x.first n blocks) ends (free_apart f good v blocks stand.rest x.first x.end stand.part.some (free_here m.free)) in
+        pieces_after ∙ ap (λ (ps : List Piece). add_pieces f ps (all_pieces f (tiles f x))) stand.rest.pieces
+        ∙ adds_pieces f good x.prot x.first x.out (x.end - x.first) (tiles f x) blocks (part_tiling f good v x stand.part)
+        (in_order_from 0 blocks (λ k b less e. omega arith) stand.lawful.in_order) apart
+
+    pub is_mapped : IsMapped f tells v (rested w) blocks (request_for x)
+    is_mapped = record {
+      range = range_rested v w (same_range_on v d w stand.walked.range m.range);
+      rest = record {
+        path = refl;
+        prepared = m.prepared ∙ stand.walked.prepared ∙ stand.rest.prepared;
+        end = m.end ∙ stand.walked.purse.end ∙ stand.rest.end;
+        pieces = blocks_after;
+      };
+      tables = tables_after f good v x stand.part blocks w.tables stand.starts stand.full (free_here m.free) stand.sorted sorted_after tables_same;
+      top = m.top ∙ stand.walked.book.top ∙ top_stays;
+      frames = record {
+        absent = length m.absent;
+        found = found w m.absent (length m.absent) (omega arith) (let c = m.capped in let n = frames_same in omega arith) m.are_absent.once m.are_absent.missing m.shown;
+        drawn = m.drawn;
+        linked = m.used;
+        purse = ap (λ (xs : List ℕ). m.drawn ++ xs) (sym purse_same) ∙ m.purse;
+        few = (let a = m.few in let b = few in omega arith);
+        spared = (let a = m.spared in let p : length d.purse ≡ length v.purse = ap length purse_same in omega arith);
+      };
+      known = λ p h. m.known p (stand.walked.known p h);
+      busy = λ frame h. m.busy frame ((stand.walked.busy frame).1 h);
+      grew = λ t. grew_on w t (let s = m.shown t in (s.0, s.1)) (m.taken t);
+      stores = λ t. m.stores t ∙ ap (λ (xs : List Change). xs ++ map Written (all_pieces f (tiles f x))) (stand.walked.stores t);
+    }
+
+    -- over a lone holder
+    module _ (a : alone) (under : x.end ≤ end_of_table f (position_over f x.first level)) (over : OwnsOver f d x.first level f.levels) where
+      pub enough_frames : linked + length (lacking f v blocks (request_for x)) ≤ v.frames
+      enough_frames =
+          let all = all_here alone a under over m.absent m.are_absent.once m.are_absent.missing (m.are_absent.all a) in
+          let r = m.room a in let n = frames_same in omega arith
+
+      pub linked_more : (linked_after : ℕ) → (IsSorted d.tables → OwnsOver f d x.first level f.levels → linked_after + length d.tables ≡ linked + length w.tables) →
+          linked_after ≡ linked + length (lacking f v blocks (request_for x))
+      linked_more linked_after counts =
+          let sums = counts (subst (λ (ps : List Position). IsSorted ps) (sym stand.walked.book.tables) stand.sorted) over in
+          let same : length d.tables ≡ length v.tables = ap (λ (ps : List Position). length ps) stand.walked.book.tables in
+          let more = tables_more f good v blocks x stand.part stand.starts stand.high w.tables stand.sorted sorted_after tables_same in
+          omega arith
+
+  -- The part was refused.
+  module _ (alone : Type 0) (w : View) (linked : ℕ) where
+    pub stays_refused : (e : MapRefused) → IsRefused f tells d w × KeepsPurse d w e → v.path ≡ [] → IsRefused f tells v (rested w) × KeepsPurse v (rested w) e
+    stays_refused e h path =
+        let r = h.0 in (
+          record {
+            range = range_rested v w (same_range_on v d w stand.walked.range r.range);
+            book = book_rested v w (same_book_on v d w stand.walked.book r.book);
+            path = sym path;
+            prepared = r.prepared ∙ stand.walked.prepared;
+            end = r.end ∙ stand.walked.purse.end;
+            purse = (r.purse.0, r.purse.1 ∙ ap (λ (xs : List ℕ). r.purse.0 ++ xs) purse_same);
+            known = λ p k. r.known p (stand.walked.known p k);
+            busy = λ frame k. r.busy frame ((stand.walked.busy frame).1 k);
+            grew = λ t. let g = r.grew t in grew_on w t g.0 (g.1, g.2);
+            stores = λ t. r.stores t ∙ stand.walked.stores t;
+          },
+          purse_on e h.1,
+        )
+      where
+        purse_on : (e : MapRefused) → KeepsPurse d w e → KeepsPurse v (rested w) e
+        purse_on (refused.NoFrames absent held) k = tt
+        purse_on refused.Misaligned k = k ∙ purse_same
+        purse_on refused.OutsideLease k = k ∙ purse_same
+        purse_on refused.OutputRange k = k ∙ purse_same
+        purse_on (refused.Occupied address) k = k ∙ purse_same
+
+    pub full_refused : (e : MapRefused) → IsRefused f tells d w × KeepsPurse d w e → HasNoEmptyTable f w
+    full_refused e h =
+        let book = same_book_on v d w stand.walked.book h.0.book in
+        λ p m.
+        let y = stand.full p (subst (λ (ps : List Position). IsAmong ps p) book.tables m) in
+        (y.0, subst (λ ps. IsOneOf ps y.0) (sym book.pieces) y.1, y.2, y.3)
+
+    pub is_refused : (e : MapRefused) → IsRefusedBelow f tells alone d w x level linked e → (refusal : Option MapRefusal) →
+        refusal ≡ option_map (λ page. Occupied (byte_at f page)) (lowest_mapped (book_of v blocks) x.first x.end) → refusal ≡ refusal_of e
+    is_refused (refused.NoFrames absent held) h refusal is = is ∙ ap (λ o. option_map (λ page. Occupied (byte_at f page)) o) (none_there h.0)
+    is_refused (refused.Occupied address) h refusal is =
+        is ∙ ap (λ o. option_map (λ page. Occupied (byte_at f page)) o) (first_mapped f good v blocks stand.rest stand.lawful stand.owns x.first x.end h.0 (lowest_on f v d x.first x.end h.0 stand.walked.book h.2))
+        ∙ ap (λ (n : ℕ). Some (Occupied n)) (sym h.1)
+    is_refused refused.Misaligned h refusal is = absurd h
+    is_refused refused.OutsideLease h refusal is = absurd h
+    is_refused refused.OutputRange h refusal is = absurd h
+
+    -- want of frames
+    module _ (absent held : ℕ) (n : Counted f tells alone d w (needs_below f f.levels x level) (d.frames + 1) absent) (l : LacksFrames tells alone d w linked absent held) where
+      each_found : tells → FindsEach d w → FindsEach v (rested w)
+      each_found t each = record {
+        drawn = each.drawn;
+        lost = each.lost;
+        purse = each.purse ∙ ap (λ (xs : List ℕ). each.drawn ++ xs) purse_same;
+        taken = each.taken ∙ ap (λ (xs : List ℕ). xs ++ each.lost) (stand.walked.taken t);
+        each = λ frame less. elim (each.each frame (subst (λ (k : ℕ). frame < k) (sym frames_same) less)) [
+          | inl held ↦ inl (subst (λ (xs : List ℕ). IsIn xs frame) purse_same held)
+          | inr other ↦ inr other
+        ];
+      }
+
+      wants : WantsFrames f tells v (rested w) blocks (request_for x) absent held
+      wants = record {
+        more = l.more;
+        held_is = l.held_is;
+        found = found w n.absent absent (let c = n.count_is in omega arith) (let c = n.count_is in let s = frames_same in omega arith) n.once n.missing n.told;
+        idle = λ over. l.idle (let s = frames_same in omega arith) ∙ purse_same;
+        tried = λ t. elim (l.tried t) [
+          | inl over ↦ inl (let s = frames_same in omega arith)
+          | inr each ↦ inr (each_found t each)
+        ];
+      }
+
+      is_short : alone → x.end ≤ end_of_table f (position_over f x.first level) → OwnsOver f d x.first level f.levels →
+          (v.frames < linked + length (lacking f v blocks (request_for x))) × (absent ≡ min (v.frames + 1) (length (lacking f v blocks (request_for x))))
+      is_short a under over =
+          let c = n.count_is in let s = frames_same in let more = l.more in let is = l.held_is in
+          let most = absent_most f good v blocks x stand.part stand.starts stand.high level stand.below n.absent n.once (λ p h. missing_here p (n.missing p h)) in
+          elim (cases_lt absent (d.frames + 1)) [
+            | inl fits ↦
+                let all = all_here alone a under over n.absent n.once n.missing (n.all a fits) in
+                elim (l.all a) [
+                  | inl none ↦ absurd (omega arith)
+                  | inr sum ↦ (omega arith, omega arith)
+                ]
+            | inr many ↦ (omega arith, omega arith)
+          ]
+
+    pub is_wanting : (e : MapRefused) → IsRefusedBelow f tells alone d w x level linked e → IsWanting f tells v (rested w) blocks (request_for x) e
+    is_wanting (refused.NoFrames absent held) h = wants absent held h.1 h.2
+    is_wanting refused.Misaligned h = tt
+    is_wanting refused.OutsideLease h = tt
+    is_wanting refused.OutputRange h = tt
+    is_wanting (refused.Occupied address) h = tt
+
+    pub is_short_of : alone → x.end ≤ end_of_table f (position_over f x.first level) → OwnsOver f d x.first level f.levels →
+        (e : MapRefused) → IsRefusedBelow f tells alone d w x level linked e → IsShortOf f v blocks (request_for x) linked e
+    is_short_of a under over (refused.NoFrames absent held) h = is_short absent held h.1 h.2 a under over
+    is_short_of a under over refused.Misaligned h = tt
+    is_short_of a under over refused.OutsideLease h = tt
+    is_short_of a under over refused.OutputRange h = tt
+    is_short_of a under over (refused.Occupied address) h = tt

@@ -1,0 +1,36 @@
+-- The needed tables that loads find absent.
+use Rattle.std.specs.Prelude.{◌≡◌, ◌⊎◌, ℕ, ◌<◌, ◌≤◌, nat_le, nat_lt, ◌&&◌, ◌||◌, Bool, List, ◌++◌, length, min, IsTrue}
+use Rattle.std.specs.List.{list_any}
+use Rattle.pt_model.specs.declared.position.Position.{Position}
+use Rattle.pt_model.specs.Layout.{Layout, pages_of_table}
+use Rattle.pt_model.specs.Tables.{end_of_table}
+use Rattle.pt_view.specs.declared.view.View.{View}
+use Rattle.pt_view.specs.declared.view.Absence.{Absence}
+use Rattle.pt_view.specs.declared.view.Absence.TheVariants.{Zero, Top}
+use Rattle.pt_view.specs.Lists.{IsAmong, places}
+
+-- a load showed that no table is linked at a position: the entry for it, or for one over it, was zero, or the
+-- root's table was too low for it
+abbrev pub shows : Layout → Absence → Position → Bool
+shows f (Zero q) p = nat_le q.base p.base && nat_le (end_of_table f p) (end_of_table f q)
+shows f (Top level) p = nat_lt level p.level || nat_lt (pages_of_table f level) (end_of_table f p)
+
+abbrev pub is_shown : Layout → List Absence → Position → Bool
+is_shown f facts p = list_any (λ x. shows f x p) facts
+
+-- a needed position that is neither a table of the book nor known to be linked
+pub record IsMissing (f : Layout) (v : View) (needed : List Position) (p : Position) : Type 0 where
+  pub is_needed : IsAmong needed p
+  pub no_table : ¬ IsAmong v.tables p
+  pub unknown : ¬ IsAmong v.known p
+
+-- The count of the needed positions below a level that a walk from view v to view w found absent: `cap` where
+-- they are more. The others are known after it.
+pub record Counted (f : Layout) (tells alone : Type 0) (v w : View) (needed : List Position) (cap count : ℕ) : Type 0 where
+  pub absent : List Position
+  pub count_is : count ≡ min cap (length absent)
+  pub once : (p : Position) → places p absent ≤ 1
+  pub missing : (p : Position) → IsAmong absent p → IsMissing f v needed p
+  pub others : count < cap → (p : Position) → IsAmong needed p → IsAmong absent p ⊎ IsAmong w.known p
+  pub all : alone → count < cap → (p : Position) → IsAmong needed p → IsAmong absent p ⊎ IsAmong v.tables p
+  pub told : tells → (facts : List Absence) × (w.absent ≡ v.absent ++ facts) × ((p : Position) → IsAmong absent p → IsTrue (is_shown f facts p))

@@ -1,0 +1,113 @@
+-- What the writing of a part does to a view.
+use Rattle.std.specs.Prelude.{◌≡◌, ◌⊎◌, ◌↔◌, ℕ, ◌+◌, ◌-◌, ◌<◌, ◌≤◌, List, [], ◌∷◌, ◌++◌, length, map, fold, false, None}
+use Rattle.pt_model.specs.declared.block.Block.{Block}
+use Rattle.pt_model.specs.declared.position.Position.{Position}
+use Rattle.pt_model.specs.Layout.{Layout, end_of, input_pages, level_of_size}
+use Rattle.pt_model.specs.Sets.{IsSorted}
+use Rattle.pt_model.specs.Tables.{is_spine, position_over, starting_top}
+use Rattle.pt_view.specs.declared.view.View.{View}
+use Rattle.pt_view.specs.declared.view.Piece.{Piece}
+use Rattle.pt_view.specs.declared.view.Change.TheVariants.{Written}
+use Rattle.pt_view.specs.Lists.{AddsPositions, IsAmong, SameFrames}
+use Rattle.pt_view.specs.Pieces.{add_piece, all_pieces}
+use Rattle.pt_view.specs.Views.{SameRange}
+use Rattle.pt_view.specs.Calls.{pieces_at, with_table}
+use Rattle.pt_walk.specs.Walks.{AddsAbsences, IsInSpan, IsOver, IsWayDown, OwnsOver, entry_number}
+use Rattle.pt_map.specs.declared.part.Part.{Part}
+use Rattle.pt_map.specs.Parts.{IsPartAt, tiles}
+
+-- the pieces of blocks put among others
+abbrev pub add_pieces : Layout → List Piece → List Piece → List Piece
+add_pieces f old new = fold (add_piece f) old new
+
+-- each needed position is known or is one of the lacking ones, and the purse has a frame for each of these
+pub record HasRoom (v : View) (needed lacking : List Position) : Type 0 where
+  pub each : (p : Position) → IsAmong needed p → IsAmong v.known p ⊎ IsAmong lacking p
+  pub frames : length lacking ≤ length v.purse
+
+-- a block is one of a list
+abbrev pub IsBlockOf : List Block → Block → Type 0
+IsBlockOf [] b = ⊥
+IsBlockOf (c ∷ cs) b = (c ≡ b) ⊎ IsBlockOf cs b
+
+-- a table begins in a block, and is one of those below the table in which the block stands
+abbrev pub IsTableIn : Layout → Block → Position → Type 0
+IsTableIn f b p = (p.level < level_of_size f b.log2) × (b.first ≤ p.base) × (p.base < end_of b)
+
+-- no piece stands at an entry over a page of a range, in a table of any level
+abbrev pub HasNoPiece : Layout → View → (first end : ℕ) → Type 0
+HasNoPiece f v first end =
+    (page level : ℕ) → first ≤ page → page < end → pieces_at f (position_over f page level) (entry_number f level page) v.pieces ≡ 0
+
+-- a part may be written from the path's last table, of this level
+pub record MayFill (f : Layout) (v : View) (x : Part) (level : ℕ) : Type 0 where
+  pub at : IsPartAt f v x level
+  pub no_piece : HasNoPiece f v x.first x.end
+  pub none : v.prepared ≡ None
+  -- no table of the book lies under an entry that a block takes
+  pub no_table : (p : Position) → IsAmong v.tables p → (b : Block) → IsBlockOf (tiles f x) b → ¬ IsTableIn f b p
+  -- the path's tables are those over the part, from the highest level down to this one, and the top is that of the format
+  pub way : IsWayDown f x.first f.levels v.path
+  pub depth : length v.path + level ≡ f.levels
+  pub top : starting_top v.levels ≤ v.top
+
+-- the way to a page may go on from the path's last table, of this level, by a table under its entry
+pub record MayGoInto (f : Layout) (v : View) (page level : ℕ) : Type 0 where
+  pub high : 0 < level
+  pub below : level < f.levels
+  pub a_page : page < input_pages f
+  pub in_span : IsInSpan v page
+  pub over : IsOver f v page level
+  pub no_piece : pieces_at f (position_over f page level) (entry_number f level page) v.pieces ≡ 0
+  pub none : v.prepared ≡ None
+
+-- the table over a page one level below another
+abbrev pub next_table : Layout → (page level : ℕ) → Position
+next_table f page level = position_over f page (level - 1)
+
+-- the path went on into it, which was linked before or is now
+pub record IsDeeper (f : Layout) (tells : Type 0) (v w : View) (page level : ℕ) : Type 0 where
+  pub range : SameRange v w
+  pub pieces : w.pieces ≡ v.pieces
+  pub top : w.top ≡ v.top
+  pub prepared : w.prepared ≡ v.prepared
+  pub end : w.end ≡ v.end
+  pub path : (frame : ℕ) × (w.path ≡ v.path ++ record { frame = frame; position = next_table f page level } ∷ [])
+  pub tables : (w.tables ≡ v.tables) ⊎ (w.tables ≡ with_table v.levels v.tables (next_table f page level))
+  pub busy : SameFrames v.busy w.busy
+  pub known : AddsPositions v.known w.known (λ p. p ≡ next_table f page level)
+  pub told : tells → (w.taken ≡ v.taken) × (w.stores ≡ v.stores)
+  pub absent : tells → AddsAbsences v w
+
+-- From view v to view w, whose purses have a frame for each lacking position, so many of which still lack: the frames
+-- that were linked are those that the purse lost.
+pub record Spends (v w : View) (lacking still : List Position) : Type 0 where
+  pub used : List ℕ
+  pub purse : v.purse ≡ used ++ w.purse
+  pub few : length used + length still ≤ length lacking
+  pub only : (p : Position) → IsAmong still p → IsAmong lacking p
+  pub each : (p : Position) → IsAmong lacking p → IsAmong w.known p ⊎ IsAmong still p
+
+-- blocks were written: their pieces are among the pieces, and the positions that they need among the tables
+pub record Filled (f : Layout) (tells : Type 0) (v w : View) (blocks : List Block) (needed : List Position) : Type 0 where
+  pub range : SameRange v w
+  pub path : w.path ≡ v.path
+  pub prepared : w.prepared ≡ v.prepared
+  pub end : w.end ≡ v.end
+  pub top : w.top ≡ v.top
+  pub pieces : w.pieces ≡ add_pieces f v.pieces (all_pieces f blocks)
+  pub tables : (p : Position) → IsAmong w.tables p ↔ (IsAmong v.tables p ⊎ (IsAmong needed p × (is_spine v.levels p ≡ false)))
+  pub in_order : IsSorted v.tables → IsSorted w.tables
+  pub busy : SameFrames v.busy w.busy
+  pub known : (p : Position) → IsAmong v.known p → IsAmong w.known p
+  pub told : tells → (w.taken ≡ v.taken) × (w.stores ≡ v.stores ++ map Written (all_pieces f blocks))
+  pub absent : tells → AddsAbsences v w
+
+-- as many positions were linked as tables came to the book
+abbrev pub LinksTables : (v w : View) → (linked after : ℕ) → Type 0
+LinksTables v w linked after = after + length v.tables ≡ linked + length w.tables
+
+-- the same, over a lone holder whose tables are in order, where those over a page from a level on are linked
+abbrev pub CountsTables : Layout → (alone : Type 0) → (v w : View) → (page level linked after : ℕ) → Type 0
+CountsTables f alone v w page level linked after =
+    alone → IsSorted v.tables → OwnsOver f v page level f.levels → LinksTables v w linked after

@@ -1,0 +1,160 @@
+//! The map of a range.
+
+ghost use Rattle.std.specs.Prelude.{◌≡◌, ◌+◌, ◌-◌, ◌/◌, ◌<◌, ◌≤◌, List, length, min, None, false, IsTrue, IfOk, IfErr, OnOk, OnErr};
+ghost use Rattle.pt_model.specs.declared.block.Block.{Block};
+ghost use Rattle.pt_model.specs.Book.{map_refusal};
+ghost use Rattle.pt_model.specs.Layout.{input_pages};
+ghost use Rattle.pt_tile.specs.Sizes.{HasAllSizes};
+ghost use Rattle.pt_view.specs.Views.{IsAtRest, SameRange, book_of};
+ghost use Rattle.pt_walk.specs.Walks.{Rests};
+ghost use Rattle.pt_map.specs.Answers.{HasNoEmptyTable, IsMapped, IsRefused, KeepsPurse, IsWanting, IsShortOf, lacking, refusal_of, request_of};
+ghost use Rattle.pt_map.specs.Filled.{CountsTables};
+ghost use Rattle.pt_map.specs.Requests.{Gathered, IsLackOf, IsRefusedBelow, IsRefusedByNumbers, IsRequested, MappedBelow, MayMap};
+
+use crate::absent::count_absent;
+use crate::fill::fill;
+use crate::part::Part;
+use crate::refused::MapRefused;
+use pt_format::{Format, Prot, Span, byte_of, is_whole, range_of};
+use pt_sweep::draw;
+use pt_tile::all_sizes;
+use pt_view::Holder;
+use pt_walk::{climb, descend, first_below};
+
+/// The part that a request is, where its range may be mapped in a span by its numbers alone.
+fn part_in<F: Format>(
+    span: Span,
+    va: u64,
+    pa: u64,
+    len: u64,
+    prot: Prot,
+) -> Result<Part, MapRefused>
+    requires within { span.first + span.count ≤ input_pages F.layout }
+    requires stated { IsTrue (F.layout.states prot) }
+    ensures asked { IfOk result (λ part. IsRequested F.layout span.first span.count va pa len (request_of F.layout va pa len prot) part) }
+    ensures refused { IfErr result (λ e. IsRefusedByNumbers F.layout span.first span.count va pa len e) }
+{
+    if !is_whole::<F>(va) || !is_whole::<F>(pa) || !is_whole::<F>(len) || len == 0 {
+        return Err(MapRefused::Misaligned);
+    }
+    let Some(range) = range_of::<F>(va, len) else {
+        return Err(MapRefused::OutsideLease)
+    };
+    let end = range.first + range.count;
+    if range.first < span.first || end > span.first + span.count {
+        return Err(MapRefused::OutsideLease);
+    }
+    if u128::from(pa) + u128::from(len) > 1 << F::OUTPUT {
+        return Err(MapRefused::OutputRange);
+    }
+    Ok(Part {
+        first: range.first,
+        end,
+        out: pa >> F::GRANULE,
+        prot,
+    })
+}
+
+/// Draws the frames that a purse lacks for so many absent tables.
+fn gather<F: Format, H: Holder<F>>(holder: &mut H, absent: u64) -> Result<(), MapRefused>
+    requires none { (H.view holder.old).prepared ≡ None }
+    ensures space { H.space holder.new ≡ H.space holder.old }
+    ensures aside { H.aside holder.new ≡ H.aside holder.old }
+    ensures alone { H.alone holder.old → H.alone holder.new }
+    ensures linked { H.alone holder.old → H.linked holder.new ≡ H.linked holder.old }
+    ensures gathered { Gathered H.tells (H.view holder.old) (H.view holder.new) absent }
+    ensures few { H.alone holder.old → H.linked holder.old + length (H.view holder.new).purse ≤ (H.view holder.old).frames }
+    ensures enough { OnOk result (absent ≤ min (length (H.view holder.new).purse) (H.view holder.old).frames) }
+    ensures lacks { IfErr result (λ e. IsLackOf H.tells (H.alone holder.old) (H.view holder.old) (H.view holder.new) (H.linked holder.old) absent e) }
+{
+    let held = u64::from(holder.purse());
+    if absent <= held {
+        return Ok(());
+    }
+    if absent <= u64::from(holder.frames()) {
+        draw::<F, H>(holder, (absent - held) as u32);
+    }
+    let held = holder.purse();
+    if absent > u64::from(held) {
+        Err(MapRefused::NoFrames { absent, held })
+    } else {
+        Ok(())
+    }
+}
+
+/// Maps a part from the path's last table, of this level, or refuses it.
+fn map_below<F: Format, H: Holder<F>>(
+    holder: &mut H,
+    level: u32,
+    part: Part,
+    sizes: u64,
+) -> Result<(), MapRefused>
+    requires may { MayMap F.layout (H.view holder.old) part level }
+    requires fixed { F.layout.grows ≡ false }
+    requires sizes { HasAllSizes F.layout sizes }
+    ensures space { H.space holder.new ≡ H.space holder.old }
+    ensures aside { H.aside holder.new ≡ H.aside holder.old }
+    ensures alone { H.alone holder.old → H.alone holder.new }
+    ensures mapped { OnOk result (MappedBelow F.layout H.tells (H.alone holder.old) (H.view holder.old) (H.view holder.new) part level (H.linked holder.old)) }
+    ensures counts { OnOk result (CountsTables F.layout (H.alone holder.old) (H.view holder.old) (H.view holder.new) part.first level (H.linked holder.old) (H.linked holder.new)) }
+    ensures stays { IfErr result (λ e. IsRefused F.layout H.tells (H.view holder.old) (H.view holder.new) × KeepsPurse (H.view holder.old) (H.view holder.new) e) }
+    ensures refused { IfErr result (λ e. IsRefusedBelow F.layout H.tells (H.alone holder.old) (H.view holder.old) (H.view holder.new) part level (H.linked holder.old) e) }
+    ensures none_linked { OnErr result (H.alone holder.old → H.linked holder.new ≡ H.linked holder.old) }
+{
+    if let Some(page) = first_below::<F, H>(holder, level, part.first, part.end) {
+        return Err(MapRefused::Occupied {
+            address: byte_of::<F>(page),
+        });
+    }
+    let cap = u64::from(holder.frames()) + 1;
+    let absent = count_absent::<F, H>(holder, level, part, sizes, cap);
+    gather::<F, H>(holder, absent)?;
+    fill::<F, H>(holder, level, part, sizes);
+    Ok(())
+}
+
+/// Maps the `len` bytes from input address `va` onto those from output address `pa`. The book gets the blocks
+/// of the one tiling of the range and the tables that they need, which are linked where they are absent.
+///
+/// Refused, in this order: `Misaligned` where one of the three numbers isn't of whole pages or the length is 0,
+/// `OutsideLease` where the input range isn't inside the span, `OutputRange` where the output range ends past
+/// the format's output addresses, `Occupied` where the book maps a page of the range, and `NoFrames` where more
+/// needed tables are absent than the purse has frames after a draw. After a refusal the book is as before.
+///
+/// A lost install is no refusal: the call goes on in the table that another holder linked.
+pub fn map<F: Format, H: Holder<F>>(
+    holder: &mut H,
+    va: u64,
+    pa: u64,
+    len: u64,
+    prot: Prot,
+) -> Result<(), MapRefused>
+    requires rest { Rests F.layout (H.view holder.old) }
+    requires stated { IsTrue (F.layout.states prot) }
+    requires fixed { F.layout.grows ≡ false }
+    requires full { HasNoEmptyTable F.layout (H.view holder.old) }
+    ensures space { H.space holder.new ≡ H.space holder.old }
+    ensures aside { H.aside holder.new ≡ H.aside holder.old }
+    ensures alone { H.alone holder.old → H.alone holder.new }
+    ensures range { SameRange (H.view holder.old) (H.view holder.new) }
+    ensures rest { Rests F.layout (H.view holder.new) }
+    ensures accepted { OnOk result ((blocks : List Block) → IsAtRest F.layout (H.view holder.old) blocks → map_refusal F.layout (book_of (H.view holder.old) blocks) va pa len ≡ None) }
+    ensures mapped { OnOk result ((blocks : List Block) → IsAtRest F.layout (H.view holder.old) blocks → IsMapped F.layout H.tells (H.view holder.old) (H.view holder.new) blocks (request_of F.layout va pa len prot)) }
+    ensures full { HasNoEmptyTable F.layout (H.view holder.new) }
+    ensures refused { IfErr result (λ e. (blocks : List Block) → IsAtRest F.layout (H.view holder.old) blocks → map_refusal F.layout (book_of (H.view holder.old) blocks) va pa len ≡ refusal_of e) }
+    ensures stays { IfErr result (λ e. IsRefused F.layout H.tells (H.view holder.old) (H.view holder.new) × KeepsPurse (H.view holder.old) (H.view holder.new) e) }
+    ensures wants { IfErr result (λ e. (blocks : List Block) → IsAtRest F.layout (H.view holder.old) blocks → IsWanting F.layout H.tells (H.view holder.old) (H.view holder.new) blocks (request_of F.layout va pa len prot) e) }
+    ensures short { H.alone holder.old → IfErr result (λ e. (blocks : List Block) → IsAtRest F.layout (H.view holder.old) blocks → IsShortOf F.layout (H.view holder.old) blocks (request_of F.layout va pa len prot) (H.linked holder.old) e) }
+    ensures enough { H.alone holder.old → OnOk result ((blocks : List Block) → IsAtRest F.layout (H.view holder.old) blocks → H.linked holder.old + length (lacking F.layout (H.view holder.old) blocks (request_of F.layout va pa len prot)) ≤ (H.view holder.old).frames) }
+    ensures linked { H.alone holder.old → OnOk result ((blocks : List Block) → IsAtRest F.layout (H.view holder.old) blocks → H.linked holder.new ≡ H.linked holder.old + length (lacking F.layout (H.view holder.old) blocks (request_of F.layout va pa len prot))) }
+    ensures none_linked { H.alone holder.old → OnErr result (H.linked holder.new ≡ H.linked holder.old) }
+{
+    let part = part_in::<F>(holder.range(), va, pa, len, prot)?;
+    let sizes = all_sizes::<F>();
+    let root = holder.root();
+    let lowest = part.step::<F>(sizes) / F::INDEX;
+    let level = descend::<F, H>(holder, root, lowest, part.first, part.end);
+    let mapped = map_below::<F, H>(holder, level, part, sizes);
+    climb::<F, H>(holder, root - level + 1);
+    mapped
+}
