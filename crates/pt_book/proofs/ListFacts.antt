@@ -1,23 +1,16 @@
--- Lists from a place on, what a search finds, and lists of legal blocks.
-use Rattle.std.proofs.Common.{◌≡◌, ℕ, zero, suc, ◌+◌, ◌-◌, ◌^◌, ◌<◌, ◌≤◌, Bool, true, false, inl, inr, List, [], ◌∷◌, ◌++◌, length, get_or, drop, Option, Some, refl, ap, ap₂, sym, subst, append_assoc, ◌∙◌, arith, ◌⊎◌}
-use Rattle.std.specs.Prelude.{nat_lt, filter, find, not, All, cond}
-use Rattle.std.proofs.lemmas.Bool.{cases_lt}
+-- What a search finds, lists of legal blocks, and blocks in the order of first pages.
+use Rattle.std.proofs.Common.{◌≡◌, ℕ, suc, ◌+◌, ◌-◌, ◌^◌, ◌<◌, ◌≤◌, Bool, true, false, inl, inr, List, [], ◌∷◌, length, get_or, drop, Option, Some, refl, ap, sym, subst, ◌∙◌, arith, ◌⊎◌}
+use Rattle.std.specs.Prelude.{nat_lt, filter, find, not, All, AllPairs, cond}
+use Rattle.std.proofs.lemmas.Bool.{cases_eq, cases_lt, le-ltb}
 use Rattle.std.proofs.lemmas.List.Elements.{All-append, All-cons, All-filter}
+use Rattle.std.proofs.lemmas.List.{get_or-drop, get_or_default, length-drop}
+use Rattle.std.proofs.lemmas.List.Kept.{AllPairs-cons}
 use Rattle.std.proofs.Math.Pow.{pow_mono}
 use Rattle.pt_model.specs.declared.block.Block.{Block}
 use Rattle.pt_model.specs.declared.block.Prot.{Prot}
 use Rattle.pt_model.specs.Layout.{Layout, IsLegal, IsLegalBlock, pages}
 use Rattle.pt_model.specs.Tiling.{IsTiling}
 use Rattle.pt_model.specs.Book.{add_blocks}
-
--- the items from a place on are the item there and those behind it
-pub from_here : {X : Type 0} (xs : List X) (i : ℕ) (d : X) → i < length xs → drop i xs ≡ get_or xs i d ∷ drop (i + 1) xs
-from_here [] i d h = absurd (omega arith)
-from_here (x ∷ xs) zero d h = refl
-from_here (x ∷ xs) (suc i) d h =
-    let rest : drop i xs ≡ get_or xs i d ∷ drop (i + 1) xs = from_here xs i d (omega arith) in
-    let same : suc i + 1 ≡ suc (i + 1) = omega arith in
-    rest ∙ ap (λ k. get_or xs i d ∷ drop k (x ∷ xs)) (sym same)
 
 -- a power below another has a smaller exponent
 pub small_power : (k m : ℕ) → 2 ^ k < 2 ^ m → k < m
@@ -56,23 +49,52 @@ tiling_legal f prot first out left (b ∷ bs) t =
     (subst (λ (x : Block). IsLegal f x.first b.log2 x.out) (sym t.0) t.1.legal)
     (tiling_legal f prot (first + pages b) (out + pages b) (left - pages b) bs t.2)
 
--- one more old block is put in order, with the new ones before it
-pub one_added : (old : List Block) (i : ℕ) (d : Block) (both left seen again pushed more rest all : List Block) → i < length old →
-    seen ≡ left → again ≡ left →
-    pushed ≡ both ++ filter (λ n. nat_lt n.first (get_or old i d).first) seen →
-    more ≡ pushed ++ get_or old i d ∷ [] →
-    rest ≡ filter (λ n. not (nat_lt n.first (get_or old i d).first)) again →
-    both ++ add_blocks (drop i old) left ≡ all →
-    more ++ add_blocks (drop (i + 1) old) rest ≡ all
-one_added old i d both left seen again pushed more rest all h s a p m r inv =
-    let b = get_or old i d in
-    let before : List Block = filter (λ n. nat_lt n.first b.first) left in
-    let behind : List Block = filter (λ n. not (nat_lt n.first b.first)) left in
-    let start : both ++ add_blocks (b ∷ drop (i + 1) old) left ≡ all = subst (λ (ds : List Block). both ++ add_blocks ds left ≡ all) (from_here old i d h) inv in
-    let front : more ≡ (both ++ before) ++ b ∷ [] =
-    m ∙ ap (λ (xs : List Block). xs ++ b ∷ []) (p ∙ ap (λ (xs : List Block). both ++ filter (λ n. nat_lt n.first b.first) xs) s) in
-    let back : rest ≡ behind = r ∙ ap (λ (xs : List Block). filter (λ n. not (nat_lt n.first b.first)) xs) a in
-    ap₂ (λ (xs ys : List Block). xs ++ add_blocks (drop (i + 1) old) ys) front back
-    ∙ append_assoc (both ++ before) (b ∷ []) (add_blocks (drop (i + 1) old) behind)
-    ∙ append_assoc both before (b ∷ add_blocks (drop (i + 1) old) behind)
-    ∙ start
+-- Lists in the order of first pages.
+
+-- the blocks of a tiling begin at its first page or after it
+tiling_from : (f : Layout) (prot : Prot) (first out left : ℕ) (bs : List Block) → IsTiling f prot first out left bs →
+    All (λ b. first ≤ b.first) bs
+tiling_from f prot first out left [] t = λ k d h. absurd (omega arith)
+tiling_from f prot first out left (b ∷ bs) t =
+    let here : b.first ≡ first = ap (λ (x : Block). x.first) t.0 in
+    let later = tiling_from f prot (first + pages b) (out + pages b) (left - pages b) bs t.2 in
+    All-cons (λ c. first ≤ c.first) b bs (omega (arith, here)) (λ k d h. omega (arith, later k d h))
+
+-- they are in order
+pub tiling_ordered : (f : Layout) (prot : Prot) (first out left : ℕ) (bs : List Block) → IsTiling f prot first out left bs →
+    AllPairs (λ b c. b.first ≤ c.first) bs
+tiling_ordered f prot first out left [] t = λ i j d h k. absurd (omega arith)
+tiling_ordered f prot first out left (b ∷ bs) t =
+    let here : b.first ≡ first = ap (λ (x : Block). x.first) t.0 in
+    let later = tiling_from f prot (first + pages b) (out + pages b) (left - pages b) bs t.2 in
+    AllPairs-cons (λ b c. b.first ≤ c.first) b bs (λ k d h. omega (arith, here, later k d h))
+    (tiling_ordered f prot (first + pages b) (out + pages b) (left - pages b) bs t.2)
+
+-- of blocks that begin at a page or after it none is before it
+none_before : (page : ℕ) (bs : List Block) → All (λ b. page ≤ b.first) bs →
+    (filter (λ n. nat_lt n.first page) bs ≡ []) × (filter (λ n. not (nat_lt n.first page)) bs ≡ bs)
+none_before page [] all = (refl, refl)
+none_before page (b ∷ bs) all =
+    let rest = none_before page bs (λ k d h. all (suc k) d (omega arith)) in
+    let out : nat_lt b.first page ≡ false = le-ltb b.first page (all 0 b (omega arith)) in (
+      rw out rest.0,
+      rw out (ap (λ (xs : List Block). b ∷ xs) rest.1),
+    )
+
+-- from a place on, where the block there isn't before the page
+pub none_left : (page : ℕ) (bs : List Block) (i : ℕ) (d : Block) → AllPairs (λ b c. b.first ≤ c.first) bs → i < length bs →
+    page ≤ (get_or bs i d).first →
+    (filter (λ n. nat_lt n.first page) (drop i bs) ≡ []) × (filter (λ n. not (nat_lt n.first page)) (drop i bs) ≡ drop i bs)
+none_left page bs i d ordered h from =
+    none_before page (drop i bs)
+    (λ k e m.
+    let at : get_or (drop i bs) k e ≡ get_or bs (i + k) e = get_or-drop i bs k e in
+    let here : page ≤ (get_or bs i e).first = subst (λ (b : Block). page ≤ b.first) (get_or_default bs i d e h) from in
+    elim (cases_eq k 0) [
+      | inl none ↦
+          let same : i + k ≡ i = omega arith in
+          omega (arith, here, ap (λ (b : Block). b.first) (at ∙ ap (λ n. get_or bs n e) same))
+      | inr some ↦
+          let inside : i + k < length bs = omega (arith, length-drop i bs) in
+          omega (arith, here, ap (λ (b : Block). b.first) at, ordered i (i + k) e (omega arith) inside)
+    ])

@@ -1,6 +1,6 @@
 //! The book of a space as a list of blocks.
 
-ghost use Rattle.std.specs.Prelude.{◌≡◌, ℕ, ◌+◌, ◌-◌, ◌*◌, ◌/◌, ◌%◌, ◌^◌, ◌<◌, ◌≤◌, None, IsTrue, OnOk, OnErr, ◌&&◌, nat_lt, nat_le, option_map};
+ghost use Rattle.std.specs.Prelude.{◌≡◌, ℕ, All, AllPairs, ◌+◌, ◌-◌, ◌*◌, ◌/◌, ◌%◌, ◌^◌, ◌<◌, ◌≤◌, None, IsTrue, IfOk, OnOk, OnErr, filter, length, not, ◌&&◌, nat_lt, nat_le, option_map};
 ghost use Rattle.pt_model.specs.Layout.{IsLegalBlock, output_pages};
 ghost use Rattle.pt_model.specs.Pages as pages;
 ghost use Rattle.pt_model.specs.Tiling.{tiling};
@@ -10,26 +10,31 @@ ghost use Rattle.pt_book.specs.Refusals.{refusal_of};
 
 use crate::lists::{add_blocks, first_met, tiled};
 use crate::refusal::Refusal;
+use crate::tables::{all_needed, is_in, is_spine, tables_after};
 use pt_format::{Block, Format, Prot, byte_of, is_whole, page_of, page_under, range_of};
+use pt_model::Position;
 use pt_num::{Memory, Span};
 use std::alloc::Global;
 use std::marker::{Model, PhantomData};
 
-/// The book of a space that is mapped by calls. Contracts see it as a book with no tables.
+/// The book of a space that is mapped by calls and starts with all levels of its format, so that its top
+/// stays. Contracts see it as a book.
 #[derive(Drop)]
 pub struct ListBook<F: Format> {
     first: u64,
     count: u64,
     blocks: Vec<Block>,
+    tables: Vec<Position>,
     alloc: Global,
     format: PhantomData<F>,
 }
 
 impl<F: Format> Model for ListBook<F> {
-    ghost use Rattle.std.specs.Prelude.{◌+◌, ◌≤◌, All, []};
+    ghost use Rattle.std.specs.Prelude.{◌+◌, ◌≤◌, All};
     ghost use Rattle.pt_model.specs.Layout.{input_pages, IsLegalBlock};
     ghost use Rattle.pt_model.specs.Tables.{starting_top};
     ghost use Rattle.pt_model.specs.Book.{Book};
+    ghost use Rattle.pt_model.specs.Sets.{IsSorted};
 
     ghost Value = { Book };
 
@@ -37,11 +42,11 @@ impl<F: Format> Model for ListBook<F> {
       first = b.first;
       count = b.count;
       blocks = b.blocks.items;
-      tables = [];
+      tables = b.tables.items;
       top = starting_top F.layout.levels;
     } };
 
-    ghost invariant = { λ b. (b.first + b.count ≤ input_pages F.layout) × All (IsLegalBlock F.layout) b.blocks.items };
+    ghost invariant = { λ b. (b.first + b.count ≤ input_pages F.layout) × All (IsLegalBlock F.layout) b.blocks.items × IsSorted b.tables.items };
 }
 
 impl<F: Format> ListBook<F> {
@@ -53,6 +58,7 @@ impl<F: Format> ListBook<F> {
             first: 0,
             count: 1 << (F::INPUT - F::GRANULE),
             blocks: Vec::new(alloc),
+            tables: Vec::new(alloc),
             alloc,
             format: PhantomData,
         }
@@ -87,22 +93,86 @@ impl<F: Format> ListBook<F> {
         })
     }
 
+    /// Whether so many frames are too few for a map of `len` bytes from input address `va` onto those from
+    /// output address `pa`: the tables that are linked and those that it needs besides are more.
+    pub fn is_short(
+        &self,
+        frames: u32,
+        va: u64,
+        pa: u64,
+        len: u64,
+        prot: Prot,
+    ) -> Result<bool, Memory>
+        requires allowed { map_refusal F.layout self.now va pa len ≡ None }
+        ensures { IfOk result (λ short. short ≡ book.is_short F.layout F.layout.levels frames self.now (pages.page_under F.layout va) (len / 2 ^ F.layout.granule) (pa / 2 ^ F.layout.granule) prot) }
+    {
+        let new = self.new_blocks(va, pa, len, prot)?;
+        let needed = all_needed::<F>(self.alloc, &new)?;
+        let linked = self.linked_count() as u128;
+        Ok(u128::from(frames) < linked + self.count_missing(&needed) as u128)
+    }
+
     /// Maps `len` bytes from input address `va` onto those from output address `pa`, by the blocks of the
-    /// tiling. `Memory` where there is none for the list, and then nothing changes.
+    /// tiling, with the tables that these need. `Memory` where there is none for the lists, and then nothing
+    /// changes.
     pub fn map(&mut self, va: u64, pa: u64, len: u64, prot: Prot) -> Result<(), Memory>
         requires allowed { map_refusal F.layout self.old va pa len ≡ None }
-        ensures blocks { OnOk result (self.new.blocks ≡ book.add_blocks self.old.blocks (tiling F.layout prot (pages.page_under F.layout va) (pa / 2 ^ F.layout.granule) (len / 2 ^ F.layout.granule))) }
-        ensures first { self.new.first ≡ self.old.first }
-        ensures count { self.new.count ≡ self.old.count }
+        ensures mapped { OnOk result (self.new ≡ book.mapped F.layout F.layout.levels self.old (pages.page_under F.layout va) (len / 2 ^ F.layout.granule) (pa / 2 ^ F.layout.granule) prot) }
         ensures same { OnErr result (self.new ≡ self.old) }
+    {
+        let new = self.new_blocks(va, pa, len, prot)?;
+        let tables = tables_after::<F>(self.alloc, &self.tables, &new)?;
+        self.blocks = add_blocks(self.alloc, &self.blocks, &new)?;
+        self.tables = tables;
+        Ok(())
+    }
+
+    /// The blocks of a map of `len` bytes from input address `va` onto those from output address `pa`.
+    fn new_blocks(&self, va: u64, pa: u64, len: u64, prot: Prot) -> Result<Vec<Block>, Memory>
+        requires allowed { map_refusal F.layout self.now va pa len ≡ None }
+        ensures tiling { IfOk result (λ new. new.items ≡ tiling F.layout prot (pages.page_under F.layout va) (pa / 2 ^ F.layout.granule) (len / 2 ^ F.layout.granule)) }
+        ensures legal { IfOk result (λ new. All (IsLegalBlock F.layout) new.items) }
+        ensures in_order { IfOk result (λ new. AllPairs (λ b c. b.first ≤ c.first) new.items) }
     {
         let span = Span {
             first: page_under::<F>(va),
             count: len >> F::GRANULE,
         };
-        let new = tiled::<F>(self.alloc, span, pa >> F::GRANULE, prot)?;
-        self.blocks = add_blocks(self.alloc, &self.blocks, new)?;
-        Ok(())
+        tiled::<F>(self.alloc, span, pa >> F::GRANULE, prot)
+    }
+
+    /// Whether a table position is linked: there is a table, or it is of the spine.
+    fn is_linked(&self, position: Position) -> bool
+        ensures { result ≡ book.is_linked F.layout.levels self.now position }
+    {
+        is_spine::<F>(position) && position.level < F::LEVELS || is_in(&self.tables, position)
+    }
+
+    /// How many table positions are linked.
+    fn linked_count(&self) -> usize
+        ensures { result ≡ book.linked_count F.layout.levels self.now }
+    {
+        self.tables.len() + 1
+    }
+
+    /// How many positions of a list aren't linked.
+    fn count_missing(&self, needed: &[Position]) -> usize
+        ensures { result ≡ length (filter (λ p. not (book.is_linked F.layout.levels self.now p)) needed.now) }
+    {
+        let mut missing = 0;
+        for position in needed {
+            if !self.is_linked(*position) {
+                missing += 1;
+            }
+        }
+        missing
+    }
+
+    /// The positions of the tables that are not of the spine, in order.
+    pub fn tables(&self) -> &[Position]
+        ensures { result.now ≡ self.now.tables }
+    {
+        &self.tables
     }
 
     /// Whether an input address has no page of the space.

@@ -1,6 +1,6 @@
 //! Lists of blocks, scanned from end to end.
 
-ghost use Rattle.std.specs.Prelude.{◌≡◌, ℕ, ◌+◌, ◌^◌, ◌<◌, ◌≤◌, ◌≢◌, ◌++◌, All, find, filter, nat_lt, not, IsTrue, IfOk, OnOk};
+ghost use Rattle.std.specs.Prelude.{◌≡◌, ℕ, ◌+◌, ◌^◌, ◌<◌, ◌≤◌, ◌≢◌, ◌++◌, All, AllPairs, drop, length, find, filter, nat_lt, not, IsTrue, IfOk, OnOk};
 ghost use Rattle.pt_model.specs.Layout.{end_of, input_pages, output_pages};
 ghost use Rattle.pt_model.specs.Book as book;
 ghost use Rattle.pt_model.specs.Tiling.{tiling};
@@ -31,47 +31,43 @@ pub(crate) fn first_met(blocks: &[Block], first: u64, last: u64) -> Option<Block
     None
 }
 
-/// Appends the blocks of a list that begin before a page.
-fn push_before(out: &mut Vec<Block>, blocks: &[Block], page: u64) -> Result<(), Memory>
-    ensures { OnOk result (out.new.items ≡ out.old.items ++ filter (λ n. nat_lt n.first page) blocks.now) }
+/// Appends those blocks of a list, from a place on, that begin before a page, and answers the place behind
+/// them. The list is in the order of first pages.
+fn push_before(
+    out: &mut Vec<Block>,
+    blocks: &[Block],
+    from: usize,
+    page: u64,
+) -> Result<usize, Memory>
+    requires in_order { AllPairs (λ b c. b.first ≤ c.first) blocks.now }
+    requires within { from ≤ length blocks.now }
+    ensures within { IfOk result (λ next. next ≤ length blocks.now) }
+    ensures pushed { OnOk result (out.new.items ≡ out.old.items ++ filter (λ n. nat_lt n.first page) (drop from blocks.now)) }
+    ensures rest { IfOk result (λ next. drop next blocks.now ≡ filter (λ n. not (nat_lt n.first page)) (drop from blocks.now)) }
 {
-    for block in blocks {
-        if block.first < page {
-            out.push(*block)?;
-        }
-    }
-    Ok(())
-}
-
-/// The blocks of a list that don't begin before a page.
-fn not_before(alloc: Global, blocks: &[Block], page: u64) -> Result<Vec<Block>, Memory>
-    ensures { IfOk result (λ rest. rest.items ≡ filter (λ n. not (nat_lt n.first page)) blocks.now) }
-{
-    let mut rest = Vec::new(alloc);
-    for block in blocks {
+    for next in from..blocks.len() {
+        let block = blocks[next];
         if block.first >= page {
-            rest.push(*block)?;
+            return Ok(next);
         }
+        out.push(block)?;
     }
-    Ok(rest)
+    Ok(blocks.len())
 }
 
-/// The blocks of two lists, the new ones put among the old in the order of first pages.
-pub(crate) fn add_blocks(
-    alloc: Global,
-    old: &[Block],
-    new: Vec<Block>,
-) -> Result<Vec<Block>, Memory>
-    ensures { IfOk result (λ both. both.items ≡ book.add_blocks old.now new.items) }
+/// The blocks of two lists, the new ones put among the old in the order of first pages. The new ones are in
+/// that order.
+pub(crate) fn add_blocks(alloc: Global, old: &[Block], new: &[Block]) -> Result<Vec<Block>, Memory>
+    requires { AllPairs (λ b c. b.first ≤ c.first) new.now }
+    ensures { IfOk result (λ both. both.items ≡ book.add_blocks old.now new.now) }
 {
     let mut both = Vec::new(alloc);
-    let mut left = new;
+    let mut next = 0;
     for block in old {
-        push_before(&mut both, &left, block.first)?;
+        next = push_before(&mut both, new, next, block.first)?;
         both.push(*block)?;
-        left = not_before(alloc, &left, block.first)?;
     }
-    both.extend_from_slice(&left)?;
+    both.extend_from_slice(&new[next..])?;
     Ok(both)
 }
 
