@@ -1,3 +1,4 @@
 pub mod WordFacts
 pub mod StageFacts
 pub mod RunFacts
+pub mod MapFacts

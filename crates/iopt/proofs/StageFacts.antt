@@ -3,7 +3,6 @@ use Rattle.std.proofs.Common.{◌≡◌, ℕ, List, [], ◌∷◌, Option, None,
 use Rattle.std.specs.Prelude.{IsTrue, IsNone, IfOk, IfErr, Result, Ok, Err}
 use Rattle.std.proofs.lemmas.Bool.{cases_Bool, and_from}
 use Rattle.pt_model.specs.declared.command.Command.{Command}
-use Rattle.pt_model.specs.Layout.{Layout}
 use Rattle.pt_script.specs.declared.whole.Script.{Script}
 use Rattle.pt_script.specs.declared.error.ScriptError.{ScriptError}
 use Rattle.pt_script.specs.declared.error.ScriptError.TheVariants.{Bad, Memory}
@@ -18,16 +17,16 @@ apart : true ≡ false → ⊥
 apart e = cc
 
 -- where no line is unbuilt, each command runs
-pub all_built : (f : Layout) (cs : List Command) (next : Option ℕ) → first_unbuilt f cs next ≡ None → IsTrue (are_built f cs)
-all_built f [] next e = refl
-all_built f (c ∷ cs) next e = elim (cases_Bool (is_built f c.what)) [
-  | inl yes_ ↦ (let rest : first_unbuilt f cs next ≡ None = rw yes_ at e in and_from (is_built f c.what) (are_built f cs) yes_ (all_built f cs next rest))
+pub all_built : (cs : List Command) (next : Option ℕ) → first_unbuilt cs next ≡ None → IsTrue (are_built cs)
+all_built [] next e = refl
+all_built (c ∷ cs) next e = elim (cases_Bool (is_built c.what)) [
+  | inl yes_ ↦ (let rest : first_unbuilt cs next ≡ None = rw yes_ at e in and_from (is_built c.what) (are_built cs) yes_ (all_built cs next rest))
   | inr not_ ↦ (let stops : Some c.line ≡ None = rw not_ at e in absurd (never c.line stops))
 ]
 
-pub none_unbuilt : (f : Layout) (cs : List Command) (next result : Option ℕ) → result ≡ first_unbuilt f cs next → IsNone result → IsTrue (are_built f cs)
-none_unbuilt f cs next None e h = all_built f cs next (sym e)
-none_unbuilt f cs next (Some line) e h = absurd (apart h)
+pub none_unbuilt : (cs : List Command) (next result : Option ℕ) → result ≡ first_unbuilt cs next → IsNone result → IsTrue (are_built cs)
+none_unbuilt cs next None e h = all_built cs next (sym e)
+none_unbuilt cs next (Some line) e h = absurd (apart h)
 
 -- what a script's run answers is what its text is answered
 pub answers : {T : Type 0} → (items : T → List ℕ) (text : List ℕ) (s : Script) (result : Result T ScriptError) →

@@ -1,16 +1,60 @@
 -- A run in its middle.
-use Rattle.std.specs.Prelude.{◌≡◌, ℕ, ◌+◌, ◌-◌, ◌*◌, ◌≤◌, List, ◌++◌, IsTrue}
+use Rattle.std.specs.Prelude.{◌≡◌, ℕ, ◌==◌, List, [], ◌∷◌, ◌++◌, Some, IsTrue, if◌then◌else◌}
+use Rattle.pt_model.specs.declared.block.Block.{Block}
+use Rattle.pt_model.specs.declared.block.Prot.{Prot}
 use Rattle.pt_model.specs.declared.command.Command.{Command}
+use Rattle.pt_model.specs.declared.command.What.{What}
+use Rattle.pt_model.specs.declared.command.What.TheVariants.{Map}
+use Rattle.pt_model.specs.declared.reply.Answer.{Answer}
+use Rattle.pt_model.specs.declared.reply.MapAnswer.{MapAnswer}
+use Rattle.pt_model.specs.declared.reply.LookupAnswer.{LookupAnswer}
 use Rattle.pt_model.specs.Layout.{Layout}
-use Rattle.pt_model.specs.Book.{Book, linked_count}
-use Rattle.pt_model.specs.Run.{replies_from, run_of}
+use Rattle.pt_model.specs.Book.{Book}
+use Rattle.pt_model.specs.Run.{answer_to, book_after, lookup_answer, map_answer, replies_from, run_of}
 use Rattle.pt_model.specs.Text.{replies_text}
-use Rattle.iopt.specs.Built.{are_built, machine, maps}
+use Rattle.pt_view.specs.declared.view.View.{View}
+use Rattle.pt_view.specs.declared.view.Piece.{Piece}
+use Rattle.pt_view.specs.Views.{IsAtRest, book_of}
+use Rattle.pt_map.specs.Answers.{HasNoEmptyTable}
+use Rattle.iopt.specs.Built.{are_built, machine}
 
--- with this book and text and these commands left, there is room for their maps, and the text and the
--- replies to them are the text of the whole run
-pub record Runs (f : Layout) (frames : ℕ) (commands : List Command) (space_frames : ℕ) (book : Book) (text : List ℕ) (rest : List Command) : Type 0 where
-  pub same : space_frames ≡ frames
-  pub built : IsTrue (are_built f rest)
-  pub room : linked_count f.levels book + (f.levels - 1) * maps rest ≤ frames
-  pub replies : text ++ replies_text (replies_from (machine f frames) book rest) ≡ replies_text (run_of (machine f frames) commands)
+-- the blocks whose first words are among these pieces: all blocks of a view at rest
+abbrev pub blocks_of : List Piece → List Block
+blocks_of [] = []
+blocks_of (x ∷ xs) = if x.part == 0 then x.block ∷ blocks_of xs else blocks_of xs
+
+abbrev pub book_in : View → Book
+book_in v = book_of v (blocks_of v.pieces)
+
+-- the holder is at rest, all levels of its format are there from the start, and no table is empty
+pub record IsReady (f : Layout) (v : View) : Type 0 where
+  pub rest : IsAtRest f v (blocks_of v.pieces)
+  pub levels : v.levels ≡ f.levels
+  pub full : HasNoEmptyTable f v
+
+-- What a command does to the holder: it is ready again with its frames, and its answer and its book are those of the
+-- book machine.
+pub record MapsAs (f : Layout) (v w : View) (va pa len : ℕ) (prot : Prot) (answer : MapAnswer) : Type 0 where
+  pub ready : IsReady f w
+  pub frames : w.frames ≡ v.frames
+  pub answers : answer ≡ map_answer (machine f v.frames) (book_in v) va pa len prot
+  pub book : book_in w ≡ book_after (machine f v.frames) (book_in v) (Map va pa len prot)
+
+pub record FindsAs (f : Layout) (v w : View) (va : ℕ) (answer : LookupAnswer) : Type 0 where
+  pub ready : IsReady f w
+  pub frames : w.frames ≡ v.frames
+  pub answers : answer ≡ lookup_answer (machine f v.frames) (book_in v) va
+  pub book : book_in w ≡ book_in v
+
+pub record AnswersAs (f : Layout) (v w : View) (what : What) (answer : Answer) : Type 0 where
+  pub ready : IsReady f w
+  pub frames : w.frames ≡ v.frames
+  pub answers : answer_to (machine f v.frames) (book_in v) what ≡ Some answer
+  pub book : book_in w ≡ book_after (machine f v.frames) (book_in v) what
+
+-- with this view and text and these commands left, the text and the replies to them are the text of the whole run
+pub record Runs (f : Layout) (frames : ℕ) (commands : List Command) (v : View) (text : List ℕ) (rest : List Command) : Type 0 where
+  pub ready : IsReady f v
+  pub same : v.frames ≡ frames
+  pub built : IsTrue (are_built rest)
+  pub replies : text ++ replies_text (replies_from (machine f frames) (book_in v) rest) ≡ replies_text (run_of (machine f frames) commands)

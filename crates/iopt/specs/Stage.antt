@@ -1,5 +1,5 @@
 -- Which scripts the program runs so far, and what it answers to a text.
-use Rattle.std.specs.Prelude.{◌≡◌, ◌⊎◌, ℕ, nat_lt, not, ◌==◌, List, [], ◌∷◌, Option, None, Some, if◌then◌else◌}
+use Rattle.std.specs.Prelude.{◌≡◌, ◌⊎◌, ℕ, List, [], ◌∷◌, Option, None, Some, if◌then◌else◌}
 use Rattle.pt_model.specs.declared.command.Name.{Name}
 use Rattle.pt_model.specs.declared.command.Name.TheVariants.{VtdSs3, VtdSs4, VtdSs5, X86L4, X86L5}
 use Rattle.pt_model.specs.declared.command.Command.{Command}
@@ -16,7 +16,7 @@ use Rattle.pt_script.specs.Scripts.{text_in}
 use Rattle.pt_script.specs.Text.{IsBadAt}
 use Rattle.fmt_vtdss.specs.VtdWords as vtd
 use Rattle.fmt_x86.specs.X86Words as x86
-use Rattle.iopt.specs.Built.{is_built, frames_for, machine}
+use Rattle.iopt.specs.Built.{is_built, machine}
 
 -- the formats that run
 abbrev pub layout_of : Name → Option Layout
@@ -28,31 +28,28 @@ layout_of X86L5 = Some (x86.layout 5)
 layout_of _ = None
 
 -- the line of the first command that doesn't run, or the one that follows
-abbrev pub first_unbuilt : Layout → List Command → Option ℕ → Option ℕ
-first_unbuilt f [] next = next
-first_unbuilt f (c ∷ cs) next = if is_built f c.what then first_unbuilt f cs next else Some c.line
+abbrev pub first_unbuilt : List Command → Option ℕ → Option ℕ
+first_unbuilt [] next = next
+first_unbuilt (c ∷ cs) next = if is_built c.what then first_unbuilt cs next else Some c.line
 
 -- what is asked after `close` doesn't run
 abbrev pub first_ask : List Ask → Option ℕ
 first_ask [] = None
 first_ask (a ∷ asks) = Some a.line
 
--- the first line of a script that doesn't run: the format's, the frames' where they might not do for the
--- maps, the hold's where it isn't 0, a command's or an ask's
-abbrev pub unbuilt_in : Layout → Script → Option ℕ
-unbuilt_in f s =
-    if nat_lt s.frames (frames_for f s.body) then Some 2 else (
-    if not (s.hold == 0) then Some 3 else first_unbuilt f s.body (first_ask s.tail))
+-- the first line of a script that doesn't run: the format's, a command's or an ask's
+abbrev pub unbuilt_in : Script → Option ℕ
+unbuilt_in s = first_unbuilt s.body (first_ask s.tail)
 
 abbrev pub unbuilt_line : Option Layout → Script → Option ℕ
 unbuilt_line None s = Some 1
-unbuilt_line (Some f) s = unbuilt_in f s
+unbuilt_line (Some f) s = unbuilt_in s
 
 -- the replies to a script that runs are the text of its run
 pub record IsRunOf (script : Script) (replies : List ℕ) : Type 0 where
   pub layout : Layout
   pub runs_on : layout_of script.format ≡ Some layout
-  pub runs : unbuilt_in layout script ≡ None
+  pub runs : unbuilt_in script ≡ None
   pub replies_are : replies ≡ replies_text (run_of (machine layout script.frames) script.body)
 
 -- the replies to a text: it is that of a script that runs, and they are the text of its run

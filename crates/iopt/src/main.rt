@@ -10,6 +10,8 @@
 #[cfg(test)]
 mod book_tests;
 mod runner;
+#[cfg(test)]
+mod script_tests;
 mod stage;
 mod status;
 #[cfg(test)]

@@ -1,81 +1,81 @@
-//! The run of commands on a new space: single pages are mapped and looked up.
+//! The run of commands on a new space.
 
-ghost use Rattle.std.specs.Prelude.{◌≡◌, ℕ, ◌+◌, ◌-◌, ◌*◌, ◌≤◌, Some, IfOk, IsTrue, false};
+ghost use Rattle.std.specs.Prelude.{◌≡◌, ◌<◌, ◌≤◌, IfOk, IsTrue, false};
 ghost use Rattle.pt_model.specs.Words.{frame_limit};
-ghost use Rattle.pt_model.specs.Book.{linked_count};
-ghost use Rattle.pt_model.specs.Run.{map_answer, lookup_answer, answer_to, book_after, run_of};
+ghost use Rattle.pt_model.specs.Run.{run_of};
 ghost use Rattle.pt_model.specs.Text.{replies_text};
-ghost use Rattle.pt_model.specs.declared.command.What.TheVariants.{Map};
-ghost use Rattle.iopt.specs.Built.{is_built, is_map, are_built, frames_for, machine};
+ghost use Rattle.iopt.specs.Built.{is_built, are_built, machine};
+ghost use Rattle.iopt.specs.Running.{IsReady, MapsAs, FindsAs, AnswersAs};
 
 use crate::text::push_reply;
 use pt_format::Format;
+use pt_map::{MapRefused, map};
 use pt_model::{Answer, Command, LookupAnswer, MapAnswer, Prot, Reply, What};
 use pt_num::Memory;
-use pt_plain::{PageRefused, Plain};
+use pt_plain::Plain;
+use pt_walk::{OutsideLease, lookup};
 use std::alloc::Global;
 
-fn map_page<F: Format>(pages: &mut Plain<F>, va: u64, pa: u64, len: u64, prot: Prot) -> MapAnswer
-    requires built { IsTrue (is_built F.layout (Map va pa len prot)) }
-    requires room { linked_count F.layout.levels pages.old.book + (F.layout.levels - 1) ≤ pages.old.frames }
-    ensures answer { result ≡ map_answer (machine F.layout pages.old.frames) pages.old.book va pa len prot }
-    ensures book { pages.new.book ≡ book_after (machine F.layout pages.old.frames) pages.old.book (Map va pa len prot) }
-    ensures frames { pages.new.frames ≡ pages.old.frames }
-    ensures linked { linked_count F.layout.levels pages.new.book ≤ linked_count F.layout.levels pages.old.book + (F.layout.levels - 1) }
+fn map_range<F: Format>(plain: &mut Plain<F>, va: u64, pa: u64, len: u64, prot: Prot) -> MapAnswer
+    requires fixed { F.layout.grows ≡ false }
+    requires ready { IsReady F.layout plain.old.view }
+    ensures { MapsAs F.layout plain.old.view plain.new.view va pa len prot result }
 {
-    match pages.map_page(va, pa, len, prot) {
+    match map::<F, Plain<F>>(plain, va, pa, len, prot) {
         Ok(()) => MapAnswer::Mapped,
-        Err(PageRefused::Misaligned) => MapAnswer::Misaligned,
-        Err(PageRefused::OutsideLease) => MapAnswer::Outside,
-        Err(PageRefused::OutputRange) => MapAnswer::Output,
-        Err(PageRefused::Occupied { address }) => MapAnswer::Occupied { address },
+        Err(MapRefused::Misaligned) => MapAnswer::Misaligned,
+        Err(MapRefused::OutsideLease) => MapAnswer::Outside,
+        Err(MapRefused::OutputRange) => MapAnswer::Output,
+        Err(MapRefused::Occupied { address }) => MapAnswer::Occupied { address },
+        Err(MapRefused::NoFrames { .. }) => MapAnswer::Frames,
     }
 }
 
-fn look_up<F: Format>(pages: &Plain<F>, va: u64) -> LookupAnswer
-    ensures { result ≡ lookup_answer (machine F.layout pages.now.frames) pages.now.book va }
+fn look_up<F: Format>(plain: &mut Plain<F>, va: u64) -> LookupAnswer
+    requires ready { IsReady F.layout plain.old.view }
+    ensures { FindsAs F.layout plain.old.view plain.new.view va result }
 {
-    match pages.lookup_page(va) {
+    match lookup::<F, Plain<F>>(plain, va) {
         Ok(Some((out, prot))) => LookupAnswer::Found { out, prot },
         Ok(None) => LookupAnswer::Nothing,
-        Err(_) => LookupAnswer::Outside,
+        Err(OutsideLease) => LookupAnswer::Outside,
     }
 }
 
 /// Answers a command.
-fn answer<F: Format>(pages: &mut Plain<F>, what: What) -> Answer
-    requires built { IsTrue (is_built F.layout what) }
-    requires room { IsTrue (is_map what) → linked_count F.layout.levels pages.old.book + (F.layout.levels - 1) ≤ pages.old.frames }
-    ensures answer { answer_to (machine F.layout pages.old.frames) pages.old.book what ≡ Some result }
-    ensures book { pages.new.book ≡ book_after (machine F.layout pages.old.frames) pages.old.book what }
-    ensures frames { pages.new.frames ≡ pages.old.frames }
-    ensures linked { IsTrue (is_map what) → linked_count F.layout.levels pages.new.book ≤ linked_count F.layout.levels pages.old.book + (F.layout.levels - 1) }
+fn answer<F: Format>(plain: &mut Plain<F>, what: What) -> Answer
+    requires fixed { F.layout.grows ≡ false }
+    requires ready { IsReady F.layout plain.old.view }
+    requires built { IsTrue (is_built what) }
+    ensures { AnswersAs F.layout plain.old.view plain.new.view what result }
 {
     match what {
-        What::Map { va, pa, len, prot } => Answer::Map(map_page(pages, va, pa, len, prot)),
-        What::Lookup { va } => Answer::Lookup(look_up(pages, va)),
+        What::Map { va, pa, len, prot } => Answer::Map(map_range(plain, va, pa, len, prot)),
+        What::Lookup { va } => Answer::Lookup(look_up(plain, va)),
         _ => unreachable!(),
     }
 }
 
-/// Runs commands on a new space of so many frames, and answers the text of the replies.
-pub fn run_pages<F: Format>(
+/// Runs commands on a new space of so many frames, of which the first `hold` after the root's table are in
+/// the purse from the start, and answers the text of the replies.
+pub fn run_commands<F: Format>(
     alloc: Global,
     frames: u32,
+    hold: u32,
     commands: &[Command],
 ) -> Result<Vec<u8>, Memory>
     requires fixed { F.layout.grows ≡ false }
     requires few { frames ≤ frame_limit F.layout }
-    requires built { IsTrue (are_built F.layout commands.now) }
-    requires enough { frames_for F.layout commands.now ≤ frames }
+    requires hold { hold < frames }
+    requires built { IsTrue (are_built commands.now) }
     ensures { IfOk result (λ text. text.items ≡ replies_text (run_of (machine F.layout frames) commands.now)) }
 {
-    let mut pages = Plain::<F>::make_pages(alloc, frames)?;
+    let mut plain = Plain::<F>::make(alloc, frames, F::LEVELS, hold)?;
     let mut text = Vec::new(alloc);
     for command in commands {
         let reply = Reply {
             line: command.line,
-            answer: answer(&mut pages, command.what),
+            answer: answer(&mut plain, command.what),
         };
         push_reply(&mut text, reply)?;
     }

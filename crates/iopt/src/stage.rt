@@ -1,49 +1,29 @@
 //! The scripts that the program runs so far.
 
-ghost use Rattle.std.specs.Prelude.{◌≡◌, ℕ, List, ◌≤◌, None, false, IsTrue, IsNone, IfOk, IfErr};
+ghost use Rattle.std.specs.Prelude.{◌≡◌, ℕ, List, ◌<◌, ◌≤◌, None, false, IsTrue, IsNone, IfOk, IfErr};
 ghost use Rattle.pt_model.specs.Words.{frame_limit};
 ghost use Rattle.pt_model.specs.Run.{run_of};
 ghost use Rattle.pt_model.specs.Text.{replies_text};
 ghost use Rattle.pt_model.specs.declared.command.Name.{Name};
-ghost use Rattle.iopt.specs.Built.{is_built, are_built, maps, frames_for, machine};
+ghost use Rattle.iopt.specs.Built.{is_built, are_built, machine};
 ghost use Rattle.iopt.specs.Stage.{layout_of, first_unbuilt, first_ask, unbuilt_in, unbuilt_line, IsRunOf, IsAnswered, IsRefusedFor, IsStopped, IsRefusal, IsUnbuilt};
 ghost use Rattle.pt_script.specs.declared.whole.Script.{Script};
 ghost use Rattle.pt_script.specs.declared.error.Reason.{Reason};
 ghost use Rattle.pt_script.specs.Scripts.{text_in};
 
-use crate::runner::run_pages;
+use crate::runner::run_commands;
 use fmt_vtdss::VtdSs;
 use fmt_x86::X86;
-use pt_format::{Format, is_whole};
+use pt_format::Format;
 use pt_model::{Ask, Command, Name, What};
 use pt_script::{Reason, Script, ScriptError, bad_is_no_script, one_script, parse};
 use std::alloc::Global;
 
-/// Whether a command runs: a map of one page, or one that is refused for its length, or a lookup.
-fn is_built<F: Format>(what: What) -> bool
-    ensures { result ≡ is_built F.layout what }
+/// Whether a command runs.
+fn is_built(what: What) -> bool
+    ensures { result ≡ is_built what }
 {
-    match what {
-        What::Map { len, .. } => len == 1 << F::GRANULE || !is_whole::<F>(len) || len == 0,
-        What::Lookup { .. } => true,
-        _ => false,
-    }
-}
-
-fn map_count(commands: &[Command]) -> usize
-    ensures { result ≡ maps commands.now }
-{
-    commands
-        .iter()
-        .filter(|command| matches!(command.what, What::Map { .. }))
-        .count()
-}
-
-/// So many frames that no map of one page lacks one.
-fn frames_for<F: Format>(commands: &[Command]) -> u128
-    ensures { result ≡ frames_for F.layout commands.now }
-{
-    1 + u128::from(F::LEVELS - 1) * map_count(commands) as u128
+    matches!(what, What::Map { .. } | What::Lookup { .. })
 }
 
 fn first_ask(asks: &[Ask]) -> Option<u32>
@@ -56,46 +36,42 @@ fn first_ask(asks: &[Ask]) -> Option<u32>
 }
 
 /// The line of the first command or ask that doesn't run.
-fn first_unbuilt<F: Format>(commands: &[Command], asks: &[Ask]) -> Option<u32>
-    ensures { result ≡ first_unbuilt F.layout commands.now (first_ask asks.now) }
+fn first_unbuilt(commands: &[Command], asks: &[Ask]) -> Option<u32>
+    ensures { result ≡ first_unbuilt commands.now (first_ask asks.now) }
 {
     for command in commands {
-        if !is_built::<F>(command.what) {
+        if !is_built(command.what) {
             return Some(command.line);
         }
     }
     first_ask(asks)
 }
 
-/// The first line of a script of this format that doesn't run.
-fn unbuilt_in<F: Format>(script: &Script) -> Option<u32>
-    ensures first { result ≡ unbuilt_in F.layout script.now }
-    ensures built { IsNone result → IsTrue (are_built F.layout script.now.body) }
-    ensures enough { IsNone result → frames_for F.layout script.now.body ≤ script.now.frames }
+/// The first line of a script of a format that runs, that doesn't run.
+fn unbuilt_in(script: &Script) -> Option<u32>
+    ensures first { result ≡ unbuilt_in script.now }
+    ensures built { IsNone result → IsTrue (are_built script.now.body) }
 {
-    if u128::from(script.frames) < frames_for::<F>(script.body.commands()) {
-        return Some(2);
-    }
-    if script.hold != 0 {
-        return Some(3);
-    }
-    first_unbuilt::<F>(script.body.commands(), script.tail.asks())
+    first_unbuilt(script.body.commands(), script.tail.asks())
 }
 
 /// The replies to a script of this format, or its first line that doesn't run.
 fn run_script<F: Format>(alloc: Global, script: &Script) -> Result<Vec<u8>, ScriptError>
     requires fixed { F.layout.grows ≡ false }
     requires few { script.now.frames ≤ frame_limit F.layout }
-    ensures answered { IfOk result (λ replies. (unbuilt_in F.layout script.now ≡ None) × (replies.items ≡ replies_text (run_of (machine F.layout script.now.frames) script.now.body))) }
-    ensures refused { IfErr result (IsStopped (unbuilt_in F.layout script.now)) }
+    requires hold { script.now.hold < script.now.frames }
+    ensures answered { IfOk result (λ replies. (unbuilt_in script.now ≡ None) × (replies.items ≡ replies_text (run_of (machine F.layout script.now.frames) script.now.body))) }
+    ensures refused { IfErr result (IsStopped (unbuilt_in script.now)) }
 {
-    if let Some(line) = unbuilt_in::<F>(script) {
+    if let Some(line) = unbuilt_in(script) {
         return Err(ScriptError::Bad {
             line,
             reason: Reason::Unbuilt,
         });
     }
-    run_pages::<F>(alloc, script.frames, script.body.commands()).map_err(|_| ScriptError::Memory)
+    run_commands::<F>(alloc, script.frames, script.hold, script.body.commands()).map_err(
+        |_| ScriptError::Memory,
+    )
 }
 
 /// The replies to a script, or its first line that doesn't run.

@@ -106,14 +106,37 @@ fn other_words_leave_the_input(rt: HostRuntime) -> Result<(), Fail> {
     Ok(())
 }
 
-// Inputs that are refused, each with its first bad line and the reason.
-const REFUSED: [(&[u8], u32, Reason); 15] = [
-    // four maps want nine frames
+// Scripts and what they are answered.
+const ANSWERED: [(&[u8], &[u8]); 3] = [
+    // the middle of a range is taken
     (
-        b"format vtdss3\nframes 8\nhold 0\nmap 0x1000 0x200000 0x1000 rw\nlookup 0x1abc\nmap 0x1000 0x3000 0x1000 r\nmap 0x1234 0x3000 0x1000 r\nmap 0x8000000000 0x0 0x1000 r\nlookup 0x2000\nlookup 0x8000000000\nclose\nend\n",
-        2,
-        Reason::Unbuilt,
+        b"format vtdss3\nframes 8\nhold 0\nmap 0x3000 0x9000 0x1000 r\nmap 0x1000 0x20000 0x3000 rw\nlookup 0x1000\nlookup 0x3004\nclose\nend\n",
+        b"4 map ok\n5 map occupied 0x3000\n6 lookup none\n7 lookup 0x9004 r\n",
     ),
+    // frames run out, and a page beside a mapped one needs none
+    (
+        b"format vtdss3\nframes 3\nhold 2\nmap 0x0 0x1000 0x1000 rw\nmap 0x40000000 0x2000 0x1000 rw\nmap 0x1000 0x8000 0x1000 r\nlookup 0x1fff\nclose\nend\n",
+        b"4 map ok\n5 map frames\n6 map ok\n7 lookup 0x8fff r\n",
+    ),
+    // a tebibyte that pages alone could tile, in all frames, and a gigabyte that they do tile
+    (
+        b"format vtdss4\nframes 32768\nhold 9\nmap 0x0 0x1000 0x10000000000 rw\nmap 0x40000000 0x1000 0x40000000 rw\nlookup 0x7fffffff\nlookup 0x80000000\nclose\nend\n",
+        b"4 map frames\n5 map ok\n6 lookup 0x40000fff rw\n7 lookup none\n",
+    ),
+];
+
+#[test]
+fn scripts_are_answered(rt: HostRuntime) -> Result<(), Fail> {
+    for (text, replies) in ANSWERED {
+        let (status, sink) = outcome(rt.alloc(), text)?;
+        assert_eq!(rt; status, Status::Done);
+        assert_eq!(rt; sink.bytes(), replies);
+    }
+    Ok(())
+}
+
+// Inputs that are refused, each with its first bad line and the reason.
+const REFUSED: [(&[u8], u32, Reason); 12] = [
     (b"", 1, Reason::Ended),
     (
         b"format vtdss3\nframes 8\nhold 0\nclose\nend",
@@ -151,17 +174,7 @@ const REFUSED: [(&[u8], u32, Reason); 15] = [
         Reason::Unbuilt,
     ),
     (
-        b"format vtdss3\nframes 8\nhold 1\nclose\nend\n",
-        3,
-        Reason::Unbuilt,
-    ),
-    (
-        b"format vtdss3\nframes 2\nhold 0\nmap 0x0 0x0 0x1000 r\nclose\nend\n",
-        2,
-        Reason::Unbuilt,
-    ),
-    (
-        b"format vtdss3\nframes 8\nhold 0\nmap 0x0 0x0 0x2000 r\nclose\nend\n",
+        b"format vtdss3\nframes 8\nhold 1\nunmap 0x0 0x1000\nclose\nend\n",
         4,
         Reason::Unbuilt,
     ),

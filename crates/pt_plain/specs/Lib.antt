@@ -1,5 +1,2 @@
-pub mod Paged
-pub mod Sets
-pub mod Tree
 pub mod Owner
-pub mod Growth
+pub mod Chains

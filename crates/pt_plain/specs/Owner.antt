@@ -1,42 +1,101 @@
--- What callers see of the words of one owner, and why a page is not mapped.
-use Rattle.std.specs.Prelude.{◌≡◌, ℕ, ◌^◌, ◌%◌, ◌<◌, ◌≢◌, ◌⊎◌, suc, List, Some}
-use Rattle.pt_model.specs.declared.block.Prot.{Prot}
-use Rattle.pt_model.specs.Layout.{Layout}
-use Rattle.pt_model.specs.Tables.{position_over}
-use Rattle.pt_model.specs.Words.{entry_of}
-use Rattle.pt_model.specs.Book.{Book, MapRefusal, Misaligned, OutsideLease, OutputRange, Occupied}
-use Rattle.pt_format.specs.Words.{MayBeLeaf}
-use Rattle.pt_plain.specs.declared.refused.PageRefused.{PageRefused}
-use Rattle.pt_plain.specs.declared.refused.PageRefused.TheVariants as refused
-use Rattle.pt_plain.specs.Tree.{position, value_of, value_under, slot}
+-- What the words of one owner, and the few fields beside them, say: the one view of the whole space.
+use Rattle.std.specs.Prelude.{◌≡◌, ℕ, zero, suc, ◌+◌, ◌-◌, ◌/◌, ◌≤◌, ◌==◌, List, [], ◌∷◌, ◌++◌, length, map, Option, Some, None, slice_index, if◌then◌else◌}
+use Rattle.pt_model.specs.declared.position.Position.{Position}
+use Rattle.pt_model.specs.declared.block.Block.{Block}
+use Rattle.pt_model.specs.Layout.{Layout, input_pages}
+use Rattle.pt_model.specs.Tables.{levels_between, spine_position, starting_top}
+use Rattle.pt_model.specs.Words.{tag, placed_at, root_level}
+use Rattle.pt_view.specs.declared.view.View.{View}
+use Rattle.pt_view.specs.declared.view.Node.{Node}
+use Rattle.pt_view.specs.declared.view.Prepared.{Prepared}
+use Rattle.pt_view.specs.Views.{IsAtRest}
+use Rattle.pt_rule.specs.Tags.{first_or}
+use Rattle.pt_rule.specs.Lawful.{Lawful}
+use Rattle.pt_rule.specs.Opening.{counting}
+use Rattle.pt_rule.specs.WholeView.{tables_in, pieces_in}
 
--- the frames of a space, and the book of its words
+-- what callers see: the words, and the one view
 pub record Owned : Type 0 where
-  pub frames : ℕ
-  pub book : Book
+  pub words : List ℕ
+  pub view : View
 
-abbrev pub refusal_of : PageRefused → MapRefusal
-refusal_of refused.Misaligned = Misaligned
-refusal_of refused.OutsideLease = OutsideLease
-refusal_of refused.OutputRange = OutputRange
-refusal_of (refused.Occupied address) = Occupied address
+-- the frame that a held frame's tag names as the next one of its purse
+abbrev pub next_named : (word : ℕ) → Option ℕ
+next_named word = if word == 1 then None else Some (word / 4 - 1)
 
--- a length that a page's map takes: one page, or one that is refused
-abbrev pub IsPageOrRefused : Layout → (len : ℕ) → Type 0
-IsPageOrRefused f len = (len ≡ 2 ^ f.granule) ⊎ ((len % 2 ^ f.granule ≢ 0) ⊎ (len ≡ 0))
+-- so many frames of a purse, from its first one, by their tags
+abbrev pub chain_of : (words : List ℕ) → (head : Option ℕ) → (count : ℕ) → List ℕ
+chain_of words head zero = []
+chain_of words None (suc count) = []
+chain_of words (Some frame) (suc count) = frame ∷ chain_of words (next_named (tag words frame)) count
 
--- the lowest table that is linked over a page
-pub record IsDeepest (f : Layout) (n linked : ℕ) (words : List ℕ) (here level frame : ℕ) : Type 0 where
-  pub a_level : level < f.levels
-  pub is_linked : frame < linked
-  pub placed : position words frame ≡ position_over f here level
-  pub on_walk : value_of f n words here ≡ value_under f n words here (suc level) frame
-  pub ends : 0 < level → entry_of f n words frame (slot f level here) ≡ 0
+-- the path's table of a level: its frame, and the position that its tag says
+abbrev pub node_at : (words path : List ℕ) → (level : ℕ) → Node
+node_at words path level =
+    record { frame = slice_index path level; position = placed_at (tag words (slice_index path level)) }
 
--- the word of the leaf over a page
-pub record IsLeafOver (f : Layout) (n : ℕ) (words : List ℕ) (here word : ℕ) : Type 0 where
-  pub out : ℕ
-  pub prot : Prot
-  pub may : MayBeLeaf f 0 0 out prot 0
-  pub word_is : word ≡ f.leaf 0 0 out prot 0
-  pub maps : value_of f n words here ≡ Some (out, prot)
+-- so many tables of a path, down to the one of the level `low`
+abbrev pub nodes_down : (words path : List ℕ) → (low count : ℕ) → List Node
+nodes_down words path low zero = []
+nodes_down words path low (suc count) = node_at words path (low + count) ∷ nodes_down words path low count
+
+-- a prepared frame, at the position that its tag says
+abbrev pub prepared_at : (words : List ℕ) → Option ℕ → Option Prepared
+prepared_at words None = None
+prepared_at words (Some frame) = Some (record { frame = frame; position = placed_at (tag words frame); bridge = None })
+
+-- the frames below n that aren't free
+abbrev pub busy_in : (words : List ℕ) → (n : ℕ) → List ℕ
+busy_in words zero = []
+busy_in words (suc frame) = if tag words frame == 0 then busy_in words frame else frame ∷ busy_in words frame
+
+-- the positions of the tree: its tables, and the spine up to its top
+abbrev pub known_in : (l : ℕ) → (tables : List Position) → (top : ℕ) → List Position
+known_in l tables top = tables ++ map spine_position (levels_between (starting_top l) top)
+
+-- The view of one owner: `head` is the first of its `held` frames, `path` has the frame of each table of its
+-- path by level, down to `level`, and `prepared` is the frame that it is about to link.
+unfoldable pub owner_view : Layout → (n l : ℕ) → (words : List ℕ) → (head : Option ℕ) → (held : ℕ) → (path : List ℕ) → (level : ℕ) → (prepared : Option ℕ) → View
+owner_view f n l words head held path level prepared = record {
+  frames = n;
+  levels = l;
+  first = 0;
+  count = input_pages f;
+  pieces = pieces_in f n prepared words n;
+  tables = tables_in l prepared words n;
+  top = root_level words;
+  purse = chain_of words head held;
+  end = None;
+  path = nodes_down words path level (root_level words + 1 - level);
+  prepared = prepared_at words prepared;
+  busy = busy_in words n;
+  known = known_in l (tables_in l prepared words n) (root_level words);
+  taken = [];
+  absent = [];
+  stores = [];
+}
+
+-- What holds of the fields: the words meet the rule with the view, the purse is all of the chain, and the
+-- table of each level of the path is placed at that level.
+pub record IsOwner (f : Layout) (n l : ℕ) (words : List ℕ) (head : Option ℕ) (held : ℕ) (path : List ℕ) (level : ℕ) (prepared : Option ℕ) : Type 0 where
+  pub lawful : Lawful f n l words (owner_view f n l words head held path level prepared ∷ [])
+  pub first_is : first_or None (chain_of words head held) ≡ head
+  pub held_is : length (chain_of words head held) ≡ held
+  pub low : level ≤ root_level words + 1
+  pub levels_are : (at : ℕ) → level ≤ at → at ≤ root_level words → (node_at words path at).position.level ≡ at
+  pub eight : length path ≡ 8
+
+-- a view of a new space: it is at rest, has no blocks and no tables, and the frames from 1 on are in its purse
+pub record IsOpened (f : Layout) (n l hold : ℕ) (v : View) : Type 0 where
+  pub frames : v.frames ≡ n
+  pub levels : v.levels ≡ l
+  pub first : v.first ≡ 0
+  pub count : v.count ≡ input_pages f
+  pub rest : IsAtRest f v []
+  pub tables : v.tables ≡ []
+  pub top : v.top ≡ starting_top l
+  pub purse : v.purse ≡ counting 1 hold
+
+-- some blocks are those of a view at rest
+abbrev pub Rests : Layout → View → Type 0
+Rests f v = (blocks : List Block) × IsAtRest f v blocks

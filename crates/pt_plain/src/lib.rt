@@ -1,13 +1,13 @@
-//! The words of one owner: a tree of page tables that maps single pages and looks them up.
+//! The words of one owner, as a holder of the whole space.
 //!
-//! It stands on the trait of formats and on the definitions. It promises that its words are a tree of
-//! tables whose walk gives a book, and that each call answers by that book and changes it as the book
-//! machine does. Frames are linked in the order of their numbers and never freed.
+//! It stands on the trait of holders (`pt_view`), on the rule of the words (`pt_rule`) and on the trait of
+//! formats (`pt_format`). It promises that its words and its one view meet the rule between any two calls,
+//! that the view is a function of the words and of its few fields, and that each call does to that view what
+//! the trait says. A new space takes one allocation; no other call takes memory.
 #![tactic(auto)]
 
+mod holder;
 mod plain;
-mod refused;
-mod tree;
+mod words;
 
 pub use plain::Plain;
-pub use refused::{OutsideLease, PageRefused};

@@ -4,5 +4,5 @@ use Rattle.iopt.proofs.StageFacts.{none_unbuilt}
 use Rattle.iopt.proofs.stage.unbuilt_in.Goals as goal
 
 pub returns-clause-built : goal.returns-clause-built
-returns-clause-built g c =
-    none_unbuilt g.F.Format.layout c.args.script.now.body (first_ask c.args.script.now.tail) c.first_unbuilt.result (search rules)
+returns-clause-built c =
+    none_unbuilt c.args.script.now.body (first_ask c.args.script.now.tail) c.first_unbuilt.result (search rules)

@@ -1,0 +1,146 @@
+-- What a map of a range answers, by the book machine.
+use Rattle.std.proofs.Common.{◌≡◌, ◌<◌, ◌≤◌, ℕ, suc, zero, ◌+◌, ◌*◌, ◌^◌, ◌/◌, ◌∷◌, ◌++◌, [], List, length, Bool, true, false, Option, Some, None, refl, ap, sym, ◌∙◌, subst, arith}
+use Rattle.std.specs.Prelude.{nat_lt, map, ◌==◌, if◌then◌else◌}
+use Rattle.std.specs.List.{range_with_len}
+use Rattle.std.proofs.lemmas.Bool.{le-ltb, lt-ltb, ne_eqb}
+use Rattle.std.proofs.lemmas.Nat.{pow_pos}
+use Rattle.pt_model.specs.declared.block.Block.{Block}
+use Rattle.pt_model.specs.declared.block.Prot.{Prot}
+use Rattle.pt_model.specs.declared.position.Position.{Position}
+use Rattle.pt_model.specs.declared.reply.MapAnswer.{MapAnswer}
+use Rattle.pt_model.specs.declared.reply.MapAnswer.TheVariants as mapping
+use Rattle.pt_model.specs.declared.command.What.TheVariants.{Map}
+use Rattle.pt_model.specs.Layout.{Layout}
+use Rattle.pt_model.specs.Pages.{page_under}
+use Rattle.pt_model.specs.Book.{Book, MapRefusal, Misaligned, OutsideLease, OutputRange, Occupied, is_short, map_refusal, mapped}
+use Rattle.pt_model.specs.Run.{after_map, book_after, lacks_frames, map_answer, refused_answer}
+use Rattle.pt_view.specs.declared.view.View.{View}
+use Rattle.pt_view.specs.declared.view.Piece.{Piece}
+use Rattle.pt_view.specs.Pieces.{IsOneOf, all_pieces, pieces_of, words_of}
+use Rattle.pt_view.specs.Views.{IsAtRest, SameBook, SameRange, book_of, linked_of}
+use Rattle.pt_view.specs.Lists.{IsAmong}
+use Rattle.pt_walk.specs.Walks.{Walked}
+use Rattle.pt_map.specs.Answers.{HasNoEmptyTable, IsMapped, IsRefused, Request, lacking, request_of}
+use Rattle.iopt.specs.Built.{machine}
+use Rattle.iopt.specs.Running.{IsReady, MapsAs, blocks_of, book_in}
+
+-- The blocks of a view at rest are read from its pieces.
+
+-- a piece's block is put before others, where the piece is its block's first word
+put_block : (b : Bool) (x : Piece) (old new all : List Block) → all ≡ old ++ new → (if b then x.block ∷ all else all) ≡ (if b then x.block ∷ old else old) ++ new
+put_block true x old new all e = ap (λ (bs : List Block). x.block ∷ bs) e
+put_block false x old new all e = e
+
+blocks_of_append : (xs ys : List Piece) → blocks_of (xs ++ ys) ≡ blocks_of xs ++ blocks_of ys
+blocks_of_append [] ys = refl
+blocks_of_append (x ∷ xs) ys = put_block (x.part == 0) x (blocks_of xs) (blocks_of ys) (blocks_of (xs ++ ys)) (blocks_of_append xs ys)
+
+skip_block : (t : Bool) (b : Block) (rest : List Block) → t ≡ false → rest ≡ [] → (if t then b ∷ rest else rest) ≡ []
+skip_block t b rest e none = ap (λ (u : Bool). if u then b ∷ rest else rest) e ∙ none
+
+-- the words of a block but the first have no block of their own
+none_of_later : (b : Block) (from count : ℕ) → 0 < from → blocks_of (map (λ part. record { block = b; part = part }) (range_with_len from count)) ≡ []
+none_of_later b from zero some = refl
+none_of_later b from (suc count) some =
+    skip_block (from == 0) b _ (ne_eqb from 0 (λ e. let x = e in omega arith)) (none_of_later b (from + 1) count (omega arith))
+
+one_of_words : (b : Block) (count : ℕ) → 0 < count → blocks_of (map (λ part. record { block = b; part = part }) (range_with_len 0 count)) ≡ b ∷ []
+one_of_words b zero some = absurd (omega arith)
+one_of_words b (suc count) some = ap (λ (bs : List Block). b ∷ bs) (none_of_later b 1 count (omega arith))
+
+pub blocks_back : (f : Layout) (bs : List Block) → blocks_of (all_pieces f bs) ≡ bs
+blocks_back f [] = refl
+blocks_back f (b ∷ bs) =
+    blocks_of_append (pieces_of f b) (all_pieces f bs)
+    ∙ ap (λ (xs : List Block). xs ++ blocks_of (all_pieces f bs)) (one_of_words b (words_of f b) (pow_pos _))
+    ∙ ap (λ (xs : List Block). b ∷ xs) (blocks_back f bs)
+
+pub blocks_are : (f : Layout) (v : View) (bs : List Block) → IsAtRest f v bs → blocks_of v.pieces ≡ bs
+blocks_are f v bs rest = ap blocks_of rest.pieces ∙ blocks_back f bs
+
+-- A map, its answer and the book after it.
+module _ (f : Layout) (v w : View) (ready : IsReady f v) (va pa len : ℕ) (prot : Prot) (full : HasNoEmptyTable f w) where
+  abbrev blocks : List Block
+  blocks = blocks_of v.pieces
+
+  abbrev asked : Request
+  asked = request_of f va pa len prot
+
+  abbrev refusal : Option MapRefusal
+  refusal = map_refusal f (book_in v) va pa len
+
+  abbrev short : Bool
+  short = is_short f f.levels v.frames (book_in v) asked.first asked.count asked.out prot
+
+  abbrev after_it : Book
+  after_it = mapped f f.levels (book_in v) asked.first asked.count asked.out prot
+
+  -- the account of frames, where so many levels are there from the start
+  short_is : (b : Bool) → nat_lt v.frames (linked_of v + length (lacking f v blocks asked)) ≡ b → short ≡ b
+  short_is b e = subst (λ (l : ℕ). is_short f l v.frames (book_in v) asked.first asked.count asked.out prot ≡ b) ready.levels e
+
+  -- the answer and the book of the book machine, by its refusal and by whether frames are short
+  answer_by : (o : Option MapRefusal) (b : Bool) → refusal ≡ o → short ≡ b →
+      map_answer (machine f v.frames) (book_in v) va pa len prot ≡ elim o [ Some r ↦ refused_answer r | None ↦ if b then mapping.Frames else mapping.Mapped ]
+  answer_by o b e s = (λ i. elim (e i) [ Some r ↦ refused_answer r | None ↦ if s i then mapping.Frames else mapping.Mapped ])
+
+  kept : SameRange v w → SameBook v w → w.path ≡ v.path → (w.prepared ≡ v.prepared) → (w.end ≡ v.end) → (a : MapAnswer) →
+      a ≡ map_answer (machine f v.frames) (book_in v) va pa len prot → after_map a after_it (book_in v) ≡ book_in v → MapsAs f v w va pa len prot a
+  kept range book path prepared end a is same = record {
+    ready = record {
+      rest = record {
+        path = path ∙ ready.rest.path;
+        prepared = prepared ∙ ready.rest.prepared;
+        end = end ∙ ready.rest.end;
+        pieces = book.pieces ∙ ready.rest.pieces ∙ ap (λ (xs : List Piece). all_pieces f (blocks_of xs)) (sym book.pieces);
+      };
+      levels = range.levels ∙ ready.levels;
+      full = full;
+    };
+    frames = range.frames;
+    answers = is;
+    book = (λ i. record { first = range.first i; count = range.count i; blocks = blocks_of (book.pieces i); tables = book.tables i; top = book.top i })
+        ∙ sym same ∙ ap (λ (x : MapAnswer). after_map x after_it (book_in v)) is;
+  }
+
+  -- it is refused for another cause than frames
+  pub refuses : (r : MapRefusal) → refusal ≡ Some r → IsRefused f ⊥ v w → MapsAs f v w va pa len prot (refused_answer r)
+  refuses r e stays = kept stays.range stays.book stays.path stays.prepared stays.end (refused_answer r) (sym (answer_by (Some r) short e refl)) (same r)
+    where
+      same : (r : MapRefusal) → after_map (refused_answer r) after_it (book_in v) ≡ book_in v
+      same Misaligned = refl
+      same OutsideLease = refl
+      same OutputRange = refl
+      same (Occupied address) = refl
+
+  -- it wants frames
+  pub wants : refusal ≡ None → v.frames < linked_of v + length (lacking f v blocks asked) → IsRefused f ⊥ v w → MapsAs f v w va pa len prot mapping.Frames
+  wants e more stays =
+      kept stays.range stays.book stays.path stays.prepared stays.end mapping.Frames (sym (answer_by None true e (short_is true (lt-ltb v.frames (linked_of v + length (lacking f v blocks asked)) more)))) refl
+
+  -- it is done
+  pub maps : refusal ≡ None → linked_of v + length (lacking f v blocks asked) ≤ v.frames → IsMapped f ⊥ v w blocks asked → MapsAs f v w va pa len prot mapping.Mapped
+  maps e enough done =
+      let is : map_answer (machine f v.frames) (book_in v) va pa len prot ≡ mapping.Mapped = answer_by None false e (short_is false (le-ltb v.frames (linked_of v + length (lacking f v blocks asked)) enough)) in
+      let now : blocks_of w.pieces ≡ (mapped f v.levels (book_of v blocks) asked.first asked.count asked.out prot).blocks = blocks_are f w _ done.rest in
+      record {
+        ready = record { rest = subst (IsAtRest f w) (sym now) done.rest; levels = done.range.levels ∙ ready.levels; full = full };
+        frames = done.range.frames;
+        answers = sym is;
+        book = (λ i. record { first = done.range.first i; count = done.range.count i; blocks = now i; tables = done.tables i; top = done.top i })
+            ∙ ap (λ (l : ℕ). mapped f l (book_in v) asked.first asked.count asked.out prot) ready.levels
+            ∙ ap (λ (x : MapAnswer). after_map x after_it (book_in v)) (sym is);
+      }
+
+-- A lookup leaves the holder as it was, but for what it knows.
+pub looked : (f : Layout) (tells : Type 0) (v w : View) → IsReady f v → Walked tells v w → IsAtRest f w (blocks_of v.pieces) → IsReady f w × (book_in w ≡ book_in v)
+looked f tells v w ready walked rest = (
+  record {
+    rest = subst (λ (xs : List Piece). IsAtRest f w (blocks_of xs)) (sym walked.book.pieces) rest;
+    levels = walked.range.levels ∙ ready.levels;
+    full = λ p among.
+        let x = ready.full p (subst (λ (ps : List Position). IsAmong ps p) walked.book.tables among) in
+        (x.0, subst (λ (xs : List Piece). IsOneOf xs x.0) (sym walked.book.pieces) x.1, x.2, x.3);
+  },
+  λ i. record { first = walked.range.first i; count = walked.range.count i; blocks = blocks_of (walked.book.pieces i); tables = walked.book.tables i; top = walked.book.top i },
+)

@@ -1,0 +1,131 @@
+//! The calls of a holder, by plain reads and writes.
+
+use crate::plain::Plain;
+use crate::words::{
+    entry, frame_address, frame_named, held_word, next_in, placed_word, set_entry, set_tag, tag_of,
+};
+use pt_format::Format;
+use pt_num::Span;
+use pt_view::{Holder, Seen, Won};
+
+impl<F: Format> Holder<F> for Plain<F> {
+    ghost use Rattle.std.specs.Prelude.{[]};
+    ghost use Rattle.pt_view.specs.Views.{linked_of};
+
+    type Space = ();
+
+    ghost space = { λ p. tt };
+
+    ghost view = { λ p. p.view };
+
+    ghost aside = { λ p. record { blocks = []; positions = [] } };
+
+    ghost tells = { ⊥ };
+
+    ghost alone = { λ p. Unit {0} };
+
+    ghost linked = { λ p. linked_of p.view };
+
+    fn root(&mut self) -> u32 {
+        let root = self.words[0];
+        let level = (root % 8) as u32;
+        self.path[level as usize] = (root / 8) as u32;
+        self.level = level;
+        level
+    }
+
+    fn enter(&mut self, number: u32) -> Seen {
+        let level = self.level;
+        let frame = self.path[level as usize];
+        let word = entry::<F>(&self.words, self.frames, frame, number);
+        if word == 0 {
+            return Seen::Empty;
+        }
+        if F::is_leaf(level, word) {
+            return Seen::Leaf(word);
+        }
+        self.path[level as usize - 1] = frame_named::<F>(F::address_of(level, word));
+        self.level = level - 1;
+        Seen::Entered
+    }
+
+    fn leave(&mut self) {
+        self.level += 1;
+    }
+
+    fn place(&mut self, level: u32, base: u64) {
+        let Some(frame) = self.head else {
+            unreachable!()
+        };
+        let next = next_in(tag_of(&self.words, frame));
+        set_tag(&mut self.words, frame, placed_word(level, base));
+        self.head = next;
+        self.held -= 1;
+        self.prepared = Some(frame);
+    }
+
+    fn unplace(&mut self) {
+        let Some(prepared) = self.prepared else {
+            unreachable!()
+        };
+        set_tag(&mut self.words, prepared, held_word(self.head));
+        self.head = Some(prepared);
+        self.held += 1;
+        self.prepared = None;
+    }
+
+    fn install(&mut self, number: u32) -> Won {
+        let level = self.level;
+        let parent = self.path[level as usize];
+        let found = entry::<F>(&self.words, self.frames, parent, number);
+        if found != 0 {
+            self.path[level as usize - 1] = frame_named::<F>(F::address_of(level, found));
+            self.level = level - 1;
+            return Won::Met;
+        }
+        let Some(frame) = self.prepared else {
+            unreachable!()
+        };
+        let word = F::table_word(level, frame_address::<F>(frame));
+        set_entry::<F>(&mut self.words, self.frames, parent, number, word);
+        self.prepared = None;
+        self.path[level as usize - 1] = frame;
+        self.level = level - 1;
+        Won::Yes
+    }
+
+    fn write(&mut self, number: u32, word: u64) {
+        let frame = self.path[self.level as usize];
+        set_entry::<F>(&mut self.words, self.frames, frame, number, word);
+    }
+
+    fn take(&mut self, frame: u32) -> bool {
+        if tag_of(&self.words, frame) != 0 {
+            return false;
+        }
+        set_tag(&mut self.words, frame, held_word(self.head));
+        self.head = Some(frame);
+        self.held += 1;
+        true
+    }
+
+    fn purse(&self) -> u32 {
+        self.held
+    }
+
+    fn frames(&self) -> u32 {
+        self.frames
+    }
+
+    fn levels(&self) -> u32 {
+        self.levels
+    }
+
+    fn range(&self) -> Span {
+        let _ = &self.words;
+        Span {
+            first: 0,
+            count: 1 << (F::INPUT - F::GRANULE),
+        }
+    }
+}
