@@ -1,0 +1,91 @@
+//! The program `pt_bench`: loads of maps and lookups over the words of one owner, to be counted by an
+//! instrument such as callgrind. It is no part of what others stand on.
+//!
+//! Words: a format, a load and a count, and `lookup` where each request is looked up after all maps. It
+//! prints how many requests were mapped and found. Two runs of different counts differ by the cost of the
+//! calls alone. It stands on the engine and on the formats, and promises that each call's condition holds.
+#![tactic(auto)]
+
+mod load;
+
+use crate::load::{Load, Tally, run_load};
+use fmt_vtdss::VtdSs;
+use fmt_x86::X86;
+use std::alloc::Global;
+use std::env;
+use std::process::ExitCode;
+
+/// What is to be run.
+struct Work {
+    load: Load,
+    count: u32,
+    lookups: bool,
+}
+
+fn load_named(word: &str) -> Option<Load> {
+    match word {
+        "pages" => Some(Load::Pages),
+        "blocks" => Some(Load::Blocks),
+        "driver" => Some(Load::Driver),
+        "gigabytes" => Some(Load::Gigabytes),
+        _ => None,
+    }
+}
+
+/// The work that the words behind the format's say.
+fn work_of(load: &str, count: &str, lookups: bool) -> Option<Work> {
+    Some(Work {
+        load: load_named(load)?,
+        count: count.parse::<u32>().ok()?,
+        lookups,
+    })
+}
+
+/// Runs a work on a format. None where the format has no such name, or no memory was found.
+fn run_work(alloc: Global, format: &str, work: Work) -> Option<Tally> {
+    let Work {
+        load,
+        count,
+        lookups,
+    } = work;
+    match format {
+        "vtdss3" => run_load::<VtdSs<3>>(alloc, load, count, lookups).ok(),
+        "vtdss4" => run_load::<VtdSs<4>>(alloc, load, count, lookups).ok(),
+        "vtdss5" => run_load::<VtdSs<5>>(alloc, load, count, lookups).ok(),
+        "x86-4" => run_load::<X86<4>>(alloc, load, count, lookups).ok(),
+        "x86-5" => run_load::<X86<5>>(alloc, load, count, lookups).ok(),
+        _ => None,
+    }
+}
+
+/// The tally of the run that the command line asks for, and None where it asks for none.
+fn run_words(rt: &HostRuntime) -> Option<Tally> {
+    let mut words = env::args(rt).ok()?.skip(1);
+    let format = words.next()?;
+    let load = words.next()?;
+    let count = words.next()?;
+    let lookups = match words.next() {
+        None => false,
+        Some(word) => {
+            if word.as_str() != "lookup" {
+                return None;
+            }
+            true
+        }
+    };
+    let work = work_of(load.as_str(), count.as_str(), lookups)?;
+    run_work(rt.alloc(), format.as_str(), work)
+}
+
+fn main(rt: HostRuntime) -> ExitCode {
+    match run_words(&rt) {
+        Some(tally) => {
+            let Tally { mapped, found } = tally;
+            match println!(rt; "mapped {mapped} found {found}") {
+                Ok(()) => ExitCode::SUCCESS,
+                Err(_) => ExitCode::from(1),
+            }
+        }
+        None => ExitCode::from(2),
+    }
+}
