@@ -123,7 +123,7 @@ fn the_words_of_blocks(rt: HostRuntime) {
 }
 
 #[test]
-fn vtd_words_are_read_back(rt: HostRuntime) {
+fn vtd_pages_are_read_back(rt: HostRuntime) {
     let words = [
         (
             0,
@@ -139,6 +139,28 @@ fn vtd_words_are_read_back(rt: HostRuntime) {
             VtdSs::<5>::leaf_word(0, 0, 0x1_2345, Prot::ReadWrite, 0),
             0x1234_5003,
         ),
+    ];
+    for (level, log2, prot, word, expected) in words {
+        assert!(rt; level < 3);
+        assert_eq!(rt; word, expected);
+        assert_eq!(rt;
+            VtdSs::<5>::read_word(level, word),
+            Read::Leaf { log2, prot }
+        );
+        assert_eq!(rt; VtdSs::<5>::read_word(level, word | 4), Read::Alien);
+    }
+    assert_eq!(rt;
+        VtdSs::<5>::read_word(4, 0x1_0000_3003),
+        Read::Table {
+            address: 0x1_0000_3000
+        }
+    );
+    assert_eq!(rt; VtdSs::<5>::read_word(3, 0), Read::Empty);
+}
+
+#[test]
+fn vtd_large_pages_are_read_back(rt: HostRuntime) {
+    let words = [
         (
             1,
             9,
@@ -177,17 +199,10 @@ fn vtd_words_are_read_back(rt: HostRuntime) {
         );
         assert_eq!(rt; VtdSs::<5>::read_word(level, word | 4), Read::Alien);
     }
-    assert_eq!(rt;
-        VtdSs::<5>::read_word(4, 0x1_0000_3003),
-        Read::Table {
-            address: 0x1_0000_3000
-        }
-    );
-    assert_eq!(rt; VtdSs::<5>::read_word(3, 0), Read::Empty);
 }
 
 #[test]
-fn x86_words_are_read_back(rt: HostRuntime) {
+fn x86_pages_are_read_back(rt: HostRuntime) {
     let words = [
         (
             0,
@@ -203,6 +218,25 @@ fn x86_words_are_read_back(rt: HostRuntime) {
             X86::<5>::leaf_word(0, 0, 0x1_2345, Prot::ReadWrite, 0),
             0x1234_5067,
         ),
+    ];
+    for (level, log2, prot, word, expected) in words {
+        assert!(rt; level < 3);
+        assert_eq!(rt; word, expected);
+        assert_eq!(rt; X86::<5>::read_word(level, word), Read::Leaf { log2, prot });
+        assert_eq!(rt; X86::<5>::read_word(level, word | 8), Read::Alien);
+    }
+    assert_eq!(rt;
+        X86::<5>::read_word(4, 0x1_0000_3027),
+        Read::Table {
+            address: 0x1_0000_3000
+        }
+    );
+    assert_eq!(rt; X86::<5>::read_word(3, 0), Read::Empty);
+}
+
+#[test]
+fn x86_large_pages_are_read_back(rt: HostRuntime) {
+    let words = [
         (
             1,
             9,
@@ -238,13 +272,6 @@ fn x86_words_are_read_back(rt: HostRuntime) {
         assert_eq!(rt; X86::<5>::read_word(level, word), Read::Leaf { log2, prot });
         assert_eq!(rt; X86::<5>::read_word(level, word | 8), Read::Alien);
     }
-    assert_eq!(rt;
-        X86::<5>::read_word(4, 0x1_0000_3027),
-        Read::Table {
-            address: 0x1_0000_3000
-        }
-    );
-    assert_eq!(rt; X86::<5>::read_word(3, 0), Read::Empty);
 }
 
 // Where the entries of frame `f` begin, in a space of four frames.
