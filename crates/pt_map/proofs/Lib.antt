@@ -26,3 +26,4 @@ pub mod Turns
 pub mod Ways
 pub mod Words
 pub mod Writes
+pub mod OneBlock

@@ -142,7 +142,12 @@ fn link<F: Format, H: Holder<F>>(holder: &mut H, level: u32, number: u32, page: 
 
 /// Stores the words of so many equal blocks that follow each other in the path's last table, of this level.
 /// `block` is the first.
-fn write_run<F: Format, H: Holder<F>>(holder: &mut H, level: u32, block: Block, count: u64)
+pub(crate) fn write_run<F: Format, H: Holder<F>>(
+    holder: &mut H,
+    level: u32,
+    block: Block,
+    count: u64,
+)
     requires may { MayFill F.layout (H.view holder.old) (part_of count block) level }
     requires run { tiles F.layout (part_of count block) ≡ blocks_of count block }
     requires here { level_of_size F.layout block.log2 ≡ level }

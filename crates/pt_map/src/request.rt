@@ -1,6 +1,6 @@
 //! The map of a range.
 
-ghost use Rattle.std.specs.Prelude.{◌≡◌, ◌+◌, ◌-◌, ◌/◌, ◌<◌, ◌≤◌, List, length, min, None, false, IsTrue, IfOk, IfErr, OnOk, OnErr};
+ghost use Rattle.std.specs.Prelude.{◌≡◌, ◌+◌, ◌-◌, ◌^◌, ◌*◌, ◌/◌, ◌<◌, ◌≤◌, List, length, min, None, false, IsTrue, IfOk, IfErr, OnOk, OnErr};
 ghost use Rattle.pt_model.specs.declared.block.Block.{Block};
 ghost use Rattle.pt_model.specs.Book.{map_refusal};
 ghost use Rattle.pt_model.specs.Layout.{input_pages};
@@ -9,13 +9,14 @@ ghost use Rattle.pt_view.specs.Views.{IsAtRest, SameRange, book_of};
 ghost use Rattle.pt_walk.specs.Walks.{Rests};
 ghost use Rattle.pt_map.specs.Answers.{HasNoEmptyTable, IsMapped, IsRefused, KeepsPurse, IsWanting, IsShortOf, lacking, refusal_of, request_of};
 ghost use Rattle.pt_map.specs.Filled.{CountsTables};
+ghost use Rattle.pt_map.specs.Parts as parts;
 ghost use Rattle.pt_map.specs.Requests.{Gathered, IsLackOf, IsRefusedBelow, IsRefusedByNumbers, IsRequested, MappedBelow, MayMap};
 
 use crate::absent::count_absent;
-use crate::fill::fill;
+use crate::fill::{fill, write_run};
 use crate::part::Part;
 use crate::refused::MapRefused;
-use pt_format::{Format, Prot, Span, byte_of, is_whole, range_of};
+use pt_format::{Block, Format, Prot, Span, byte_of, is_whole, range_of};
 use pt_sweep::draw;
 use pt_tile::all_sizes;
 use pt_view::Holder;
@@ -82,7 +83,7 @@ fn gather<F: Format, H: Holder<F>>(holder: &mut H, absent: u64) -> Result<(), Ma
     }
 }
 
-/// Maps a part from the path's last table, of this level, or refuses it.
+/// Maps a part of any blocks from the path's last table, of this level, or refuses it.
 fn map_below<F: Format, H: Holder<F>>(
     holder: &mut H,
     level: u32,
@@ -111,6 +112,72 @@ fn map_below<F: Format, H: Holder<F>>(
     gather::<F, H>(holder, absent)?;
     fill::<F, H>(holder, level, part, sizes);
     Ok(())
+}
+
+/// The same, for a part that is one block of that table: it needs no further table.
+fn map_block<F: Format, H: Holder<F>>(
+    holder: &mut H,
+    level: u32,
+    part: Part,
+    log2: u32,
+) -> Result<(), MapRefused>
+    requires may { MayMap F.layout (H.view holder.old) part level }
+    requires size { log2 ≡ parts.step F.layout part }
+    requires high { F.layout.index * level ≤ log2 }
+    requires whole { part.end ≡ part.first + 2 ^ log2 }
+    ensures space { H.space holder.new ≡ H.space holder.old }
+    ensures aside { H.aside holder.new ≡ H.aside holder.old }
+    ensures alone { H.alone holder.old → H.alone holder.new }
+    ensures mapped { OnOk result (MappedBelow F.layout H.tells (H.alone holder.old) (H.view holder.old) (H.view holder.new) part level (H.linked holder.old)) }
+    ensures counts { OnOk result (CountsTables F.layout (H.alone holder.old) (H.view holder.old) (H.view holder.new) part.first level (H.linked holder.old) (H.linked holder.new)) }
+    ensures stays { IfErr result (λ e. IsRefused F.layout H.tells (H.view holder.old) (H.view holder.new) × KeepsPurse (H.view holder.old) (H.view holder.new) e) }
+    ensures refused { IfErr result (λ e. IsRefusedBelow F.layout H.tells (H.alone holder.old) (H.view holder.old) (H.view holder.new) part level (H.linked holder.old) e) }
+    ensures none_linked { OnErr result (H.alone holder.old → H.linked holder.new ≡ H.linked holder.old) }
+{
+    let block = Block {
+        first: part.first,
+        log2,
+        out: part.out,
+        prot: part.prot,
+    };
+    if let Some(taken) = first_below::<F, H>(holder, level, block.first, part.end) {
+        return Err(MapRefused::Occupied {
+            address: byte_of::<F>(taken),
+        });
+    }
+    // what the purse tells of the account of frames is part of the answer
+    let _held = holder.purse();
+    write_run::<F, H>(holder, level, block, 1);
+    Ok(())
+}
+
+/// Maps a part from the path's last table, of this level, or refuses it. `log2` is the size of its first block.
+fn map_at<F: Format, H: Holder<F>>(
+    holder: &mut H,
+    level: u32,
+    part: Part,
+    log2: u32,
+    sizes: u64,
+) -> Result<(), MapRefused>
+    requires may { MayMap F.layout (H.view holder.old) part level }
+    requires fixed { F.layout.grows ≡ false }
+    requires sizes { HasAllSizes F.layout sizes }
+    requires size { log2 ≡ parts.step F.layout part }
+    requires small { log2 < 64 }
+    ensures space { H.space holder.new ≡ H.space holder.old }
+    ensures aside { H.aside holder.new ≡ H.aside holder.old }
+    ensures alone { H.alone holder.old → H.alone holder.new }
+    ensures mapped { OnOk result (MappedBelow F.layout H.tells (H.alone holder.old) (H.view holder.old) (H.view holder.new) part level (H.linked holder.old)) }
+    ensures counts { OnOk result (CountsTables F.layout (H.alone holder.old) (H.view holder.old) (H.view holder.new) part.first level (H.linked holder.old) (H.linked holder.new)) }
+    ensures stays { IfErr result (λ e. IsRefused F.layout H.tells (H.view holder.old) (H.view holder.new) × KeepsPurse (H.view holder.old) (H.view holder.new) e) }
+    ensures refused { IfErr result (λ e. IsRefusedBelow F.layout H.tells (H.alone holder.old) (H.view holder.old) (H.view holder.new) part level (H.linked holder.old) e) }
+    ensures none_linked { OnErr result (H.alone holder.old → H.linked holder.new ≡ H.linked holder.old) }
+{
+    if log2 >= F::INDEX * level && part.end - part.first == 1 << log2 {
+        map_block::<F, H>(holder, level, part, log2)
+    } else {
+        map_below::<F, H>(holder, level, part, sizes)
+    }
 }
 
 /// Maps the `len` bytes from input address `va` onto those from output address `pa`. The book gets the blocks
@@ -152,9 +219,9 @@ pub fn map<F: Format, H: Holder<F>>(
     let part = part_in::<F>(holder.range(), va, pa, len, prot)?;
     let sizes = all_sizes::<F>();
     let root = holder.root();
-    let lowest = part.step::<F>(sizes) / F::INDEX;
-    let level = descend::<F, H>(holder, root, lowest, part.first, part.end);
-    let mapped = map_below::<F, H>(holder, level, part, sizes);
+    let log2 = part.step::<F>(sizes);
+    let level = descend::<F, H>(holder, root, log2 / F::INDEX, part.first, part.end);
+    let mapped = map_at::<F, H>(holder, level, part, log2, sizes);
     climb::<F, H>(holder, root - level + 1);
     mapped
 }

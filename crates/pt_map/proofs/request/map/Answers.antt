@@ -8,8 +8,9 @@ use Rattle.pt_view.specs.Views.{IsAtRest, book_of}
 use Rattle.pt_walk.specs.Walks.{OwnsOver}
 use Rattle.pt_map.proofs.Maps.{Begun, Reached, Done, accepts, clear_here, enough_frames, full_after, is_mapped, is_short, is_wanting, linked_more, low_step, may_map, owns_root, range_after, range_root, refuses, rests_after, stays_refused, step_over}
 use Rattle.pt_map.proofs.request.map.Given.{Over}
+use Rattle.pt_map.proofs.Steps.{step_small}
 use Rattle.pt_map.proofs.request.map.Goals as goal
-use Rattle.pt_map.proofs.request.map.Goals.{After-INDEX, After-descend-level, After-map_below-mapped, After-climb}
+use Rattle.pt_map.proofs.request.map.Goals.{After-INDEX, After-descend-level, After-map_at-mapped, After-climb}
 
 -- What is known at the root, at the table over all of the part, and at the end.
 
@@ -46,7 +47,7 @@ reached g c b =
       walked = e.walked;
       range = e.range;
       down = e.down;
-      low = subst (λ (n : ℕ). n ≤ c.descend-level.result) (step_over f c.step.result c.INDEX.result c.in_ok-part.part c.step.ensures (c.INDEX.ensures ∙ sym g.met.F.Format.has_constants.index_is)) e.lowest;
+      low = subst (λ (n : ℕ). n ≤ c.descend-level.result) (step_over f c.step-log2.result c.INDEX.result c.in_ok-part.part c.step-log2.ensures (c.INDEX.ensures ∙ sym g.met.F.Format.has_constants.index_is)) e.lowest;
       clear = e.clear (owns_root f g.met.F.Format.lawful_layout g.H.Holder.tells (g.H.Holder.alone c.args.holder.now) v u c.in_ok-part.part c.root-root.result b)
           (clear_here f g.met.F.Format.lawful_layout g.H.Holder.tells (g.H.Holder.alone c.args.holder.now) v u c.in_ok-part.part c.root-root.result b);
     }
@@ -54,9 +55,9 @@ reached g c b =
 done : (g : Over) (c : After-climb g) →
     Reached g.F.Format.layout g.H.Holder.tells (g.H.Holder.alone c.args.holder.now) (g.H.Holder.view c.args.holder.now) (g.H.Holder.view c.root-root.new.self) (g.H.Holder.view c.descend-level.new.holder) c.in_ok-part.part c.root-root.result c.descend-level.result →
     Done g.F.Format.layout g.H.Holder.tells (g.H.Holder.alone c.args.holder.now) (g.H.Holder.alone c.descend-level.new.holder) (g.H.Holder.view c.args.holder.now) (g.H.Holder.view c.root-root.new.self) (g.H.Holder.view c.descend-level.new.holder)
-    (g.H.Holder.view c.map_below-mapped.new.holder) (g.H.Holder.view c.climb.new.holder) c.in_ok-part.part c.root-root.result c.descend-level.result (g.H.Holder.linked c.descend-level.new.holder) c.map_below-mapped.result
+    (g.H.Holder.view c.map_at-mapped.new.holder) (g.H.Holder.view c.climb.new.holder) c.in_ok-part.part c.root-root.result c.descend-level.result (g.H.Holder.linked c.descend-level.new.holder) c.map_at-mapped.result
 done g c h =
-    let e = c.map_below-mapped.ensures in
+    let e = c.map_at-mapped.ensures in
     record { reached = h; mapped = e.mapped; stays = e.stays; refused = e.refused; left = c.climb.ensures.left }
 
 pub descend-level-requires-clause-range : goal.descend-level-requires-clause-range
@@ -66,13 +67,13 @@ descend-level-requires-clause-range g c =
 
 pub descend-level-requires-clause-lowest : goal.descend-level-requires-clause-lowest
 descend-level-requires-clause-lowest g c =
-    subst (λ (n : ℕ). n ≤ c.root-root.result) (sym (step_over g.F.Format.layout c.step.result c.INDEX.result c.in_ok-part.part c.step.ensures (c.INDEX.ensures ∙ sym g.met.F.Format.has_constants.index_is)))
+    subst (λ (n : ℕ). n ≤ c.root-root.result) (sym (step_over g.F.Format.layout c.step-log2.result c.INDEX.result c.in_ok-part.part c.step-log2.ensures (c.INDEX.ensures ∙ sym g.met.F.Format.has_constants.index_is)))
     (low_step g.F.Format.layout g.met.F.Format.lawful_layout g.H.Holder.tells (g.H.Holder.alone c.args.holder.now) (g.H.Holder.view c.args.holder.now) (g.H.Holder.view c.root-root.new.self) c.in_ok-part.part c.root-root.result
     (begun g (goal.at.descend-level-requires-clause-lowest g c).After-INDEX))
 
-pub map_below-mapped-requires-clause-may : goal.map_below-mapped-requires-clause-may
-map_below-mapped-requires-clause-may g c =
-    let at = goal.at.map_below-mapped-requires-clause-may g c in
+pub map_at-mapped-requires-clause-may : goal.map_at-mapped-requires-clause-may
+map_at-mapped-requires-clause-may g c =
+    let at = goal.at.map_at-mapped-requires-clause-may g c in
     may_map g.F.Format.layout g.met.F.Format.lawful_layout g.H.Holder.tells (g.H.Holder.alone c.args.holder.now) (g.H.Holder.view c.args.holder.now) (g.H.Holder.view c.root-root.new.self) (g.H.Holder.view c.descend-level.new.holder)
     c.in_ok-part.part c.root-root.result c.descend-level.result (reached g at.After-descend-level (begun g at.After-INDEX))
 
@@ -80,67 +81,67 @@ pub returns-clause-range : goal.returns-clause-range
 returns-clause-range g c =
     let at = goal.at.returns-clause-range g c in
     range_after g.F.Format.layout g.met.F.Format.lawful_layout g.H.Holder.tells (g.H.Holder.alone c.args.holder.now) (g.H.Holder.alone c.descend-level.new.holder)
-    (g.H.Holder.view c.args.holder.now) (g.H.Holder.view c.root-root.new.self) (g.H.Holder.view c.descend-level.new.holder) (g.H.Holder.view c.map_below-mapped.new.holder) (g.H.Holder.view c.climb.new.holder)
-    c.in_ok-part.part c.root-root.result c.descend-level.result (g.H.Holder.linked c.descend-level.new.holder) c.map_below-mapped.result
+    (g.H.Holder.view c.args.holder.now) (g.H.Holder.view c.root-root.new.self) (g.H.Holder.view c.descend-level.new.holder) (g.H.Holder.view c.map_at-mapped.new.holder) (g.H.Holder.view c.climb.new.holder)
+    c.in_ok-part.part c.root-root.result c.descend-level.result (g.H.Holder.linked c.descend-level.new.holder) c.map_at-mapped.result
     (done g at.After-climb (reached g at.After-descend-level (begun g at.After-INDEX)))
 
 pub returns-clause-rest : goal.returns-clause-rest
 returns-clause-rest g c =
     let at = goal.at.returns-clause-rest g c in
     rests_after g.F.Format.layout g.met.F.Format.lawful_layout g.H.Holder.tells (g.H.Holder.alone c.args.holder.now) (g.H.Holder.alone c.descend-level.new.holder)
-    (g.H.Holder.view c.args.holder.now) (g.H.Holder.view c.root-root.new.self) (g.H.Holder.view c.descend-level.new.holder) (g.H.Holder.view c.map_below-mapped.new.holder) (g.H.Holder.view c.climb.new.holder)
-    c.in_ok-part.part c.root-root.result c.descend-level.result (g.H.Holder.linked c.descend-level.new.holder) c.map_below-mapped.result
+    (g.H.Holder.view c.args.holder.now) (g.H.Holder.view c.root-root.new.self) (g.H.Holder.view c.descend-level.new.holder) (g.H.Holder.view c.map_at-mapped.new.holder) (g.H.Holder.view c.climb.new.holder)
+    c.in_ok-part.part c.root-root.result c.descend-level.result (g.H.Holder.linked c.descend-level.new.holder) c.map_at-mapped.result
     (done g at.After-climb (reached g at.After-descend-level (begun g at.After-INDEX)))
 
 pub returns-clause-accepted : goal.returns-clause-accepted
 returns-clause-accepted g c =
     let at = goal.at.returns-clause-accepted g c in
     accepts g.F.Format.layout g.met.F.Format.lawful_layout g.H.Holder.tells (g.H.Holder.alone c.args.holder.now) (g.H.Holder.alone c.descend-level.new.holder)
-    (g.H.Holder.view c.args.holder.now) (g.H.Holder.view c.root-root.new.self) (g.H.Holder.view c.descend-level.new.holder) (g.H.Holder.view c.map_below-mapped.new.holder) (g.H.Holder.view c.climb.new.holder)
-    c.in_ok-part.part c.root-root.result c.descend-level.result (g.H.Holder.linked c.descend-level.new.holder) c.map_below-mapped.result
+    (g.H.Holder.view c.args.holder.now) (g.H.Holder.view c.root-root.new.self) (g.H.Holder.view c.descend-level.new.holder) (g.H.Holder.view c.map_at-mapped.new.holder) (g.H.Holder.view c.climb.new.holder)
+    c.in_ok-part.part c.root-root.result c.descend-level.result (g.H.Holder.linked c.descend-level.new.holder) c.map_at-mapped.result
     (done g at.After-climb (reached g at.After-descend-level (begun g at.After-INDEX)))
-    c.args.va c.args.pa c.args.len (λ blocks. c.in_ok-part.ensures.asked.refusal (book_of (g.H.Holder.view c.args.holder.now) blocks) (sym c.range.ensures.first, sym c.range.ensures.count)) c.map_below-mapped.result c.map_below-mapped.ensures.mapped
+    c.args.va c.args.pa c.args.len (λ blocks. c.in_ok-part.ensures.asked.refusal (book_of (g.H.Holder.view c.args.holder.now) blocks) (sym c.range.ensures.first, sym c.range.ensures.count)) c.map_at-mapped.result c.map_at-mapped.ensures.mapped
 
 pub returns-clause-mapped : goal.returns-clause-mapped
 returns-clause-mapped g c =
     let at = goal.at.returns-clause-mapped g c in
     is_mapped g.F.Format.layout g.met.F.Format.lawful_layout g.H.Holder.tells (g.H.Holder.alone c.args.holder.now) (g.H.Holder.alone c.descend-level.new.holder)
-    (g.H.Holder.view c.args.holder.now) (g.H.Holder.view c.root-root.new.self) (g.H.Holder.view c.descend-level.new.holder) (g.H.Holder.view c.map_below-mapped.new.holder) (g.H.Holder.view c.climb.new.holder)
-    c.in_ok-part.part c.root-root.result c.descend-level.result (g.H.Holder.linked c.descend-level.new.holder) c.map_below-mapped.result
-    (done g at.After-climb (reached g at.After-descend-level (begun g at.After-INDEX))) (request_of g.F.Format.layout c.args.va c.args.pa c.args.len c.args.prot) c.in_ok-part.ensures.asked.request c.map_below-mapped.result c.map_below-mapped.ensures.mapped
+    (g.H.Holder.view c.args.holder.now) (g.H.Holder.view c.root-root.new.self) (g.H.Holder.view c.descend-level.new.holder) (g.H.Holder.view c.map_at-mapped.new.holder) (g.H.Holder.view c.climb.new.holder)
+    c.in_ok-part.part c.root-root.result c.descend-level.result (g.H.Holder.linked c.descend-level.new.holder) c.map_at-mapped.result
+    (done g at.After-climb (reached g at.After-descend-level (begun g at.After-INDEX))) (request_of g.F.Format.layout c.args.va c.args.pa c.args.len c.args.prot) c.in_ok-part.ensures.asked.request c.map_at-mapped.result c.map_at-mapped.ensures.mapped
 
 pub returns-clause-full : goal.returns-clause-full
 returns-clause-full g c =
     let at = goal.at.returns-clause-full g c in
     full_after g.F.Format.layout g.met.F.Format.lawful_layout g.H.Holder.tells (g.H.Holder.alone c.args.holder.now) (g.H.Holder.alone c.descend-level.new.holder)
-    (g.H.Holder.view c.args.holder.now) (g.H.Holder.view c.root-root.new.self) (g.H.Holder.view c.descend-level.new.holder) (g.H.Holder.view c.map_below-mapped.new.holder) (g.H.Holder.view c.climb.new.holder)
-    c.in_ok-part.part c.root-root.result c.descend-level.result (g.H.Holder.linked c.descend-level.new.holder) c.map_below-mapped.result
+    (g.H.Holder.view c.args.holder.now) (g.H.Holder.view c.root-root.new.self) (g.H.Holder.view c.descend-level.new.holder) (g.H.Holder.view c.map_at-mapped.new.holder) (g.H.Holder.view c.climb.new.holder)
+    c.in_ok-part.part c.root-root.result c.descend-level.result (g.H.Holder.linked c.descend-level.new.holder) c.map_at-mapped.result
     (done g at.After-climb (reached g at.After-descend-level (begun g at.After-INDEX)))
 
 pub returns-clause-refused : goal.returns-clause-refused
 returns-clause-refused g c =
     let at = goal.at.returns-clause-refused g c in
     refuses g.F.Format.layout g.met.F.Format.lawful_layout g.H.Holder.tells (g.H.Holder.alone c.args.holder.now) (g.H.Holder.alone c.descend-level.new.holder)
-    (g.H.Holder.view c.args.holder.now) (g.H.Holder.view c.root-root.new.self) (g.H.Holder.view c.descend-level.new.holder) (g.H.Holder.view c.map_below-mapped.new.holder) (g.H.Holder.view c.climb.new.holder)
-    c.in_ok-part.part c.root-root.result c.descend-level.result (g.H.Holder.linked c.descend-level.new.holder) c.map_below-mapped.result
+    (g.H.Holder.view c.args.holder.now) (g.H.Holder.view c.root-root.new.self) (g.H.Holder.view c.descend-level.new.holder) (g.H.Holder.view c.map_at-mapped.new.holder) (g.H.Holder.view c.climb.new.holder)
+    c.in_ok-part.part c.root-root.result c.descend-level.result (g.H.Holder.linked c.descend-level.new.holder) c.map_at-mapped.result
     (done g at.After-climb (reached g at.After-descend-level (begun g at.After-INDEX)))
-    c.args.va c.args.pa c.args.len (λ blocks. c.in_ok-part.ensures.asked.refusal (book_of (g.H.Holder.view c.args.holder.now) blocks) (sym c.range.ensures.first, sym c.range.ensures.count)) c.map_below-mapped.result c.map_below-mapped.ensures.refused
+    c.args.va c.args.pa c.args.len (λ blocks. c.in_ok-part.ensures.asked.refusal (book_of (g.H.Holder.view c.args.holder.now) blocks) (sym c.range.ensures.first, sym c.range.ensures.count)) c.map_at-mapped.result c.map_at-mapped.ensures.refused
 
 pub returns-clause-stays : goal.returns-clause-stays
 returns-clause-stays g c =
     let at = goal.at.returns-clause-stays g c in
     stays_refused g.F.Format.layout g.met.F.Format.lawful_layout g.H.Holder.tells (g.H.Holder.alone c.args.holder.now) (g.H.Holder.alone c.descend-level.new.holder)
-    (g.H.Holder.view c.args.holder.now) (g.H.Holder.view c.root-root.new.self) (g.H.Holder.view c.descend-level.new.holder) (g.H.Holder.view c.map_below-mapped.new.holder) (g.H.Holder.view c.climb.new.holder)
-    c.in_ok-part.part c.root-root.result c.descend-level.result (g.H.Holder.linked c.descend-level.new.holder) c.map_below-mapped.result
-    (done g at.After-climb (reached g at.After-descend-level (begun g at.After-INDEX))) c.map_below-mapped.result c.map_below-mapped.ensures.stays
+    (g.H.Holder.view c.args.holder.now) (g.H.Holder.view c.root-root.new.self) (g.H.Holder.view c.descend-level.new.holder) (g.H.Holder.view c.map_at-mapped.new.holder) (g.H.Holder.view c.climb.new.holder)
+    c.in_ok-part.part c.root-root.result c.descend-level.result (g.H.Holder.linked c.descend-level.new.holder) c.map_at-mapped.result
+    (done g at.After-climb (reached g at.After-descend-level (begun g at.After-INDEX))) c.map_at-mapped.result c.map_at-mapped.ensures.stays
 
 pub returns-clause-wants : goal.returns-clause-wants
 returns-clause-wants g c =
     let at = goal.at.returns-clause-wants g c in
     is_wanting g.F.Format.layout g.met.F.Format.lawful_layout g.H.Holder.tells (g.H.Holder.alone c.args.holder.now) (g.H.Holder.alone c.descend-level.new.holder)
-    (g.H.Holder.view c.args.holder.now) (g.H.Holder.view c.root-root.new.self) (g.H.Holder.view c.descend-level.new.holder) (g.H.Holder.view c.map_below-mapped.new.holder) (g.H.Holder.view c.climb.new.holder)
-    c.in_ok-part.part c.root-root.result c.descend-level.result (g.H.Holder.linked c.descend-level.new.holder) c.map_below-mapped.result
-    (done g at.After-climb (reached g at.After-descend-level (begun g at.After-INDEX))) (request_of g.F.Format.layout c.args.va c.args.pa c.args.len c.args.prot) c.in_ok-part.ensures.asked.request c.map_below-mapped.result c.map_below-mapped.ensures.refused
+    (g.H.Holder.view c.args.holder.now) (g.H.Holder.view c.root-root.new.self) (g.H.Holder.view c.descend-level.new.holder) (g.H.Holder.view c.map_at-mapped.new.holder) (g.H.Holder.view c.climb.new.holder)
+    c.in_ok-part.part c.root-root.result c.descend-level.result (g.H.Holder.linked c.descend-level.new.holder) c.map_at-mapped.result
+    (done g at.After-climb (reached g at.After-descend-level (begun g at.After-INDEX))) (request_of g.F.Format.layout c.args.va c.args.pa c.args.len c.args.prot) c.in_ok-part.ensures.asked.request c.map_at-mapped.result c.map_at-mapped.ensures.refused
 
 pub returns-clause-short : goal.returns-clause-short
 returns-clause-short g c = λ a.
@@ -151,12 +152,12 @@ returns-clause-short g c = λ a.
     let a_root = c.root-root.ensures.alone a in
     let a_table = c.descend-level.ensures.alone a_root in
     let same : g.H.Holder.linked c.descend-level.new.holder ≡ g.H.Holder.linked c.args.holder.now = c.descend-level.ensures.linked a_root ∙ c.root-root.ensures.linked a in
-    subst (λ (n : ℕ). IfErr c.map_below-mapped.result (λ e. (blocks : List Block) → IsAtRest f v blocks → IsShortOf f v blocks q n e)) same
+    subst (λ (n : ℕ). IfErr c.map_at-mapped.result (λ e. (blocks : List Block) → IsAtRest f v blocks → IsShortOf f v blocks q n e)) same
     (is_short g.F.Format.layout g.met.F.Format.lawful_layout g.H.Holder.tells (g.H.Holder.alone c.args.holder.now) (g.H.Holder.alone c.descend-level.new.holder)
-    (g.H.Holder.view c.args.holder.now) (g.H.Holder.view c.root-root.new.self) (g.H.Holder.view c.descend-level.new.holder) (g.H.Holder.view c.map_below-mapped.new.holder) (g.H.Holder.view c.climb.new.holder)
-    c.in_ok-part.part c.root-root.result c.descend-level.result (g.H.Holder.linked c.descend-level.new.holder) c.map_below-mapped.result
+    (g.H.Holder.view c.args.holder.now) (g.H.Holder.view c.root-root.new.self) (g.H.Holder.view c.descend-level.new.holder) (g.H.Holder.view c.map_at-mapped.new.holder) (g.H.Holder.view c.climb.new.holder)
+    c.in_ok-part.part c.root-root.result c.descend-level.result (g.H.Holder.linked c.descend-level.new.holder) c.map_at-mapped.result
     (done g at.After-climb (reached g at.After-descend-level (begun g at.After-INDEX)))
-    q c.in_ok-part.ensures.asked.request a_table (c.descend-level.ensures.owned a_root) c.map_below-mapped.result c.map_below-mapped.ensures.refused)
+    q c.in_ok-part.ensures.asked.request a_table (c.descend-level.ensures.owned a_root) c.map_at-mapped.result c.map_at-mapped.ensures.refused)
 
 pub returns-clause-enough : goal.returns-clause-enough
 returns-clause-enough g c = λ a.
@@ -167,12 +168,12 @@ returns-clause-enough g c = λ a.
     let a_root = c.root-root.ensures.alone a in
     let a_table = c.descend-level.ensures.alone a_root in
     let same : g.H.Holder.linked c.descend-level.new.holder ≡ g.H.Holder.linked c.args.holder.now = c.descend-level.ensures.linked a_root ∙ c.root-root.ensures.linked a in
-    subst (λ (n : ℕ). OnOk c.map_below-mapped.result ((blocks : List Block) → IsAtRest f v blocks → n + length (lacking f v blocks q) ≤ v.frames)) same
+    subst (λ (n : ℕ). OnOk c.map_at-mapped.result ((blocks : List Block) → IsAtRest f v blocks → n + length (lacking f v blocks q) ≤ v.frames)) same
     (enough_frames g.F.Format.layout g.met.F.Format.lawful_layout g.H.Holder.tells (g.H.Holder.alone c.args.holder.now) (g.H.Holder.alone c.descend-level.new.holder)
-    (g.H.Holder.view c.args.holder.now) (g.H.Holder.view c.root-root.new.self) (g.H.Holder.view c.descend-level.new.holder) (g.H.Holder.view c.map_below-mapped.new.holder) (g.H.Holder.view c.climb.new.holder)
-    c.in_ok-part.part c.root-root.result c.descend-level.result (g.H.Holder.linked c.descend-level.new.holder) c.map_below-mapped.result
+    (g.H.Holder.view c.args.holder.now) (g.H.Holder.view c.root-root.new.self) (g.H.Holder.view c.descend-level.new.holder) (g.H.Holder.view c.map_at-mapped.new.holder) (g.H.Holder.view c.climb.new.holder)
+    c.in_ok-part.part c.root-root.result c.descend-level.result (g.H.Holder.linked c.descend-level.new.holder) c.map_at-mapped.result
     (done g at.After-climb (reached g at.After-descend-level (begun g at.After-INDEX)))
-    q c.in_ok-part.ensures.asked.request a_table (c.descend-level.ensures.owned a_root) c.map_below-mapped.result c.map_below-mapped.ensures.mapped)
+    q c.in_ok-part.ensures.asked.request a_table (c.descend-level.ensures.owned a_root) c.map_at-mapped.result c.map_at-mapped.ensures.mapped)
 
 pub returns-clause-linked : goal.returns-clause-linked
 returns-clause-linked g c = λ a.
@@ -184,11 +185,16 @@ returns-clause-linked g c = λ a.
     let a_table = c.descend-level.ensures.alone a_root in
     let same : g.H.Holder.linked c.descend-level.new.holder ≡ g.H.Holder.linked c.args.holder.now = c.descend-level.ensures.linked a_root ∙ c.root-root.ensures.linked a in
     let d : View = g.H.Holder.view c.descend-level.new.holder in
-    let w : View = g.H.Holder.view c.map_below-mapped.new.holder in
-    let left : g.H.Holder.linked c.climb.new.holder ≡ g.H.Holder.linked c.map_below-mapped.new.holder = c.climb.ensures.linked (c.map_below-mapped.ensures.alone a_table) in
-    subst (λ (n : ℕ). OnOk c.map_below-mapped.result ((blocks : List Block) → IsAtRest f v blocks → g.H.Holder.linked c.climb.new.holder ≡ n + length (lacking f v blocks q))) same
+    let w : View = g.H.Holder.view c.map_at-mapped.new.holder in
+    let left : g.H.Holder.linked c.climb.new.holder ≡ g.H.Holder.linked c.map_at-mapped.new.holder = c.climb.ensures.linked (c.map_at-mapped.ensures.alone a_table) in
+    subst (λ (n : ℕ). OnOk c.map_at-mapped.result ((blocks : List Block) → IsAtRest f v blocks → g.H.Holder.linked c.climb.new.holder ≡ n + length (lacking f v blocks q))) same
     (linked_more g.F.Format.layout g.met.F.Format.lawful_layout g.H.Holder.tells (g.H.Holder.alone c.args.holder.now) (g.H.Holder.alone c.descend-level.new.holder)
-    (g.H.Holder.view c.args.holder.now) (g.H.Holder.view c.root-root.new.self) (g.H.Holder.view c.descend-level.new.holder) (g.H.Holder.view c.map_below-mapped.new.holder) (g.H.Holder.view c.climb.new.holder)
-    c.in_ok-part.part c.root-root.result c.descend-level.result (g.H.Holder.linked c.descend-level.new.holder) c.map_below-mapped.result
+    (g.H.Holder.view c.args.holder.now) (g.H.Holder.view c.root-root.new.self) (g.H.Holder.view c.descend-level.new.holder) (g.H.Holder.view c.map_at-mapped.new.holder) (g.H.Holder.view c.climb.new.holder)
+    c.in_ok-part.part c.root-root.result c.descend-level.result (g.H.Holder.linked c.descend-level.new.holder) c.map_at-mapped.result
     (done g at.After-climb (reached g at.After-descend-level (begun g at.After-INDEX)))
-    q c.in_ok-part.ensures.asked.request a_table (c.descend-level.ensures.owned a_root) (g.H.Holder.linked c.climb.new.holder) c.map_below-mapped.result c.map_below-mapped.ensures.mapped (subst (λ (k : ℕ). OnOk c.map_below-mapped.result (g.H.Holder.alone c.descend-level.new.holder → IsSorted d.tables → OwnsOver f d c.in_ok-part.part.first c.descend-level.result f.levels → k + length d.tables ≡ g.H.Holder.linked c.descend-level.new.holder + length w.tables)) (sym left) c.map_below-mapped.ensures.counts))
+    q c.in_ok-part.ensures.asked.request a_table (c.descend-level.ensures.owned a_root) (g.H.Holder.linked c.climb.new.holder) c.map_at-mapped.result c.map_at-mapped.ensures.mapped (subst (λ (k : ℕ). OnOk c.map_at-mapped.result (g.H.Holder.alone c.descend-level.new.holder → IsSorted d.tables → OwnsOver f d c.in_ok-part.part.first c.descend-level.result f.levels → k + length d.tables ≡ g.H.Holder.linked c.descend-level.new.holder + length w.tables)) (sym left) c.map_at-mapped.ensures.counts))
+
+pub map_at-mapped-requires-clause-small : goal.map_at-mapped-requires-clause-small
+map_at-mapped-requires-clause-small g c =
+    let small = step_small g.F.Format.layout g.met.F.Format.lawful_layout c.in_ok-part.part c.in_ok-part.ensures.asked.part in
+    let is = c.step-log2.ensures in omega arith
