@@ -59,7 +59,11 @@ pub(crate) fn split_word(raw: &[u8]) -> (&[u8], &[u8])
 fn space_count(raw: &[u8]) -> usize
     ensures { result ≡ count_by (λ b. b == 32) raw.now }
 {
-    raw.iter().filter(|b| **b == b' ').count()
+    let mut count = 0;
+    for byte in raw {
+        count += usize::from(*byte == b' ');
+    }
+    count
 }
 
 fn word_count(raw: &[u8]) -> usize

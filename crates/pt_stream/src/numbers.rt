@@ -4,7 +4,6 @@ ghost use Rattle.std.specs.Fmt.{digits, digit_glyph};
 ghost use Rattle.pt_model.specs.Numbers.{decimal, hexadecimal, HasOneNumber};
 
 use pt_num::Memory;
-use std::str;
 
 // The digits of `2^64 - 1` in decimal.
 const MOST_DIGITS: usize = 20;
@@ -39,31 +38,45 @@ fn write_digits(bytes: &mut [u8], value: u64, base: u64) -> usize
     }
 }
 
-fn is_spelled(text: &[u8], value: u64, base: u64) -> bool
+// The digit of which a byte is the one glyph.
+fn digit_in(byte: u8, base: u64) -> Option<u64>
     requires base { (base ≡ 10) ⊎ (base ≡ 16) }
-    ensures { IsTrue result ↔ (text.now ≡ digits base false value) }
+    ensures found { IfSome result (λ d. (d < base) × (byte ≡ digit_glyph false d)) }
+    ensures none { IfNone result ((d : ℕ) → d < base → byte ≢ digit_glyph false d) }
 {
-    let mut bytes = [0; MOST_DIGITS];
-    let start = write_digits(&mut bytes, value, base);
-    text == &bytes[start..]
+    let digit = if byte < b'a' {
+        if byte < b'0' || byte > b'9' {
+            return None;
+        }
+        byte - b'0'
+    } else {
+        if byte > b'f' {
+            return None;
+        }
+        byte - (b'a' - 10)
+    };
+    let digit = u64::from(digit);
+    if digit < base { Some(digit) } else { None }
 }
 
-fn read_digits(text: &[u8], base: u32) -> Option<u64>
+// The digits are read from the first to the last. A zero in front stands alone.
+fn read_digits(text: &[u8], base: u64) -> Option<u64>
     requires base { (base ≡ 10) ⊎ (base ≡ 16) }
     ensures found { IfSome result (λ n. text.now ≡ digits base false n) }
     ensures none { IfNone result ((n : ℕ) → n < 2 ^ 64 → text.now ≢ digits base false n) }
 {
-    let Ok(digits) = str::from_utf8(text) else {
-        return None
-    };
-    let Ok(value) = u64::from_str_radix(digits, base) else {
-        return None
-    };
-    if is_spelled(text, value, base as u64) {
-        Some(value)
-    } else {
-        None
+    if text.is_empty() {
+        return None;
     }
+    let mut value: u64 = digit_in(text[0], base)?;
+    if value == 0 && text.len() > 1 {
+        return None;
+    }
+    for at in 1..text.len() {
+        let digit = digit_in(text[at], base)?;
+        value = value.checked_mul(base)?.checked_add(digit)?;
+    }
+    Some(value)
 }
 
 /// The number of which this is the decimal spelling: digits without leading zeros, `0` for zero.
