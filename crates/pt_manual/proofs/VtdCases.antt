@@ -1,5 +1,5 @@
 -- The walk of VT-d tables at numbers worked out by hand: a space of one frame, whose entry 0 is given.
-use Rattle.std.proofs.Common.{◌≡◌, ◌∷◌, [], refl, ℕ, zero, suc, List}
+use Rattle.std.proofs.Common.{◌≡◌, ◌∷◌, [], refl, ℕ, zero, suc, ◌-◌, List}
 use Rattle.pt_model.specs.declared.block.Prot.TheVariants.{Read, ReadWrite}
 use Rattle.pt_manual.specs.declared.walked.Walked.TheVariants.{None, Alien, Page}
 use Rattle.pt_manual.specs.VtdWalk.{walk}
@@ -43,3 +43,47 @@ pointer_past_the_frames = refl
 
 pub root_past_the_frames : walk (10 ∷ 0 ∷ zeros 512) 3 0x8000000000 ≡ Alien 3
 root_past_the_frames = refl
+
+-- Two entries: entry 0 points to the table itself, so that entry 1 is read in the table of the level that the address says.
+abbrev pub pair : (levels pointer e : ℕ) → List ℕ
+pair levels pointer e = (levels - 1) ∷ 0 ∷ pointer ∷ e ∷ zeros 510
+
+-- a pointer to reads alone over a page to writes alone: nothing is permitted
+pub nothing_permitted : walk (pair 3 0x100000001 0x40001002) 3 0x1abc ≡ None
+nothing_permitted = refl
+
+-- pages of 4 KiB, 2 MiB and 1 GiB
+pub small : walk (pair 3 0x100000003 0x40001001) 3 0x1abc ≡ Page 0x40001abc Read
+small = refl
+
+pub large : walk (pair 3 0x100000003 0x40000083) 3 0x212345 ≡ Page 0x40012345 ReadWrite
+large = refl
+
+pub largest : walk (pair 3 0x100000003 0x80000081) 3 0x7fffffff ≡ Page 0xbfffffff Read
+largest = refl
+
+-- a page that isn't of its size's alignment; PS in the lowest table, and in those above the pages of 1 GiB
+pub unaligned : walk (pair 3 0x100000003 0x40100083) 3 0x200000 ≡ Alien 2
+unaligned = refl
+
+pub low_size : walk (pair 3 0x100000003 0x40000083) 3 0x1abc ≡ Alien 1
+low_size = refl
+
+pub size_in_the_fourth : walk (pair 4 0x100000003 0x83) 4 0x8000000abc ≡ Alien 4
+size_in_the_fourth = refl
+
+pub size_in_the_fifth : walk (pair 5 0x100000003 0x83) 5 0x1000000000abc ≡ Alien 5
+size_in_the_fifth = refl
+
+-- other bits of a pointer: 2, 11, 52, 63
+pub pointer_bit_2 : walk (one 0x100000007) 3 0 ≡ Alien 3
+pointer_bit_2 = refl
+
+pub pointer_bit_11 : walk (one 0x100000803) 3 0 ≡ Alien 3
+pointer_bit_11 = refl
+
+pub pointer_bit_52 : walk (one 0x10000100000003) 3 0 ≡ Alien 3
+pointer_bit_52 = refl
+
+pub pointer_bit_63 : walk (one 0x8000000100000003) 3 0 ≡ Alien 3
+pointer_bit_63 = refl
