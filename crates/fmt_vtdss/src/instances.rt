@@ -6,7 +6,7 @@ ghost use Rattle.fmt_vtdss.specs.VtdWords.{layout};
 ghost use Rattle.fmt_vtdss.specs.VtdLaws.{has_constants, lawful_layout, words_differ, steps_agree, is_walk};
 
 use crate::words;
-use pt_format::{Format, Prot, Read};
+use pt_format::{Format, Prot, Read, WordRun};
 
 /// Second-stage tables of `L` levels: 3 (39-bit input addresses), 4 (48 bits) or 5 (57 bits). No other
 /// number of levels is a format.
@@ -64,6 +64,10 @@ impl Format for VtdSs<3> {
 
     fn leaf_word(level: u32, _log2: u32, out: u64, prot: Prot, _part: u64) -> u64 {
         words::leaf_word(level, out, prot)
+    }
+
+    fn word_run(level: u32, log2: u32, out: u64, prot: Prot, count: u64) -> WordRun {
+        words::word_run::<3>(level, log2, out, prot, count)
     }
 
     fn table_word(_level: u32, address: u64) -> u64 {
@@ -144,6 +148,10 @@ impl Format for VtdSs<4> {
         words::leaf_word(level, out, prot)
     }
 
+    fn word_run(level: u32, log2: u32, out: u64, prot: Prot, count: u64) -> WordRun {
+        words::word_run::<4>(level, log2, out, prot, count)
+    }
+
     fn table_word(_level: u32, address: u64) -> u64 {
         words::table_word(address)
     }
@@ -220,6 +228,10 @@ impl Format for VtdSs<5> {
 
     fn leaf_word(level: u32, _log2: u32, out: u64, prot: Prot, _part: u64) -> u64 {
         words::leaf_word(level, out, prot)
+    }
+
+    fn word_run(level: u32, log2: u32, out: u64, prot: Prot, count: u64) -> WordRun {
+        words::word_run::<5>(level, log2, out, prot, count)
     }
 
     fn table_word(_level: u32, address: u64) -> u64 {

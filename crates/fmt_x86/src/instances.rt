@@ -6,7 +6,7 @@ ghost use Rattle.fmt_x86.specs.X86Words.{layout};
 ghost use Rattle.fmt_x86.specs.X86Laws.{has_constants, lawful_layout, words_differ, steps_agree, is_walk};
 
 use crate::words;
-use pt_format::{Format, Prot, Read};
+use pt_format::{Format, Prot, Read, WordRun};
 
 /// Tables of `L` levels: 4 (47-bit input addresses) or 5 (56 bits), which are the lower half of canonical
 /// addresses. No other number of levels is a format.
@@ -64,6 +64,10 @@ impl Format for X86<4> {
 
     fn leaf_word(level: u32, _log2: u32, out: u64, prot: Prot, _part: u64) -> u64 {
         words::leaf_word(level, out, prot)
+    }
+
+    fn word_run(level: u32, log2: u32, out: u64, prot: Prot, count: u64) -> WordRun {
+        words::word_run::<4>(level, log2, out, prot, count)
     }
 
     fn table_word(_level: u32, address: u64) -> u64 {
@@ -142,6 +146,10 @@ impl Format for X86<5> {
 
     fn leaf_word(level: u32, _log2: u32, out: u64, prot: Prot, _part: u64) -> u64 {
         words::leaf_word(level, out, prot)
+    }
+
+    fn word_run(level: u32, log2: u32, out: u64, prot: Prot, count: u64) -> WordRun {
+        words::word_run::<5>(level, log2, out, prot, count)
     }
 
     fn table_word(_level: u32, address: u64) -> u64 {

@@ -1,7 +1,7 @@
 //! The words of entries.
 
 ghost use Rattle.std.specs.Prelude.{◌≡◌, ℕ, ◌+◌, ◌*◌, ◌/◌, ◌%◌, ◌^◌, ◌<◌, ◌≤◌, MatchOption, IsTrue};
-ghost use Rattle.pt_format.specs.Words.{HasSizes, IsFrameAddress, IsTableAddress, LeafPage, IsLeaf, IsPointer, IsWritten};
+ghost use Rattle.pt_format.specs.Words.{HasSizes, MayBeLeaves, GoBy, IsFrameAddress, IsTableAddress, LeafPage, IsLeaf, IsPointer, IsWritten};
 ghost use Rattle.pt_format.specs.Reading.{ReadsAs};
 ghost use Rattle.pt_model.specs.Layout.{input_pages, output_pages};
 ghost use Rattle.pt_model.specs.declared.block.Prot.{Prot};
@@ -11,7 +11,7 @@ ghost use Rattle.fmt_x86.specs.X86Words.{layout, of_leaf, of_pointer};
 use crate::entry::Entry;
 use bitflags::Flags;
 use pt_format::four_kib::{self, out_under, page_in};
-use pt_format::{Prot, Read, is_frame_address};
+use pt_format::{Prot, Read, WordRun, is_frame_address};
 use pt_num::is_aligned;
 
 /// The bits of a leaf besides its address and its size.
@@ -58,6 +58,20 @@ pub fn leaf_word(level: u32, out: u64, prot: Prot) -> u64
     entry.insert(leaf_bits(prot));
     entry.insert(size_bits(level));
     entry.bits()
+}
+
+/// The run of the words of equal blocks that follow each other: each block has one word.
+pub fn word_run<const L: u32>(level: u32, log2: u32, out: u64, prot: Prot, count: u64) -> WordRun
+    requires some { 1 ≤ count }
+    requires leaves { MayBeLeaves (layout L) level log2 out prot count }
+    ensures some { 1 ≤ result.blocks }
+    ensures few { result.blocks ≤ count }
+    ensures run { GoBy (layout L) level log2 out prot result.blocks result.step }
+{
+    WordRun {
+        blocks: count,
+        step: four_kib::step(log2),
+    }
 }
 
 /// The pointer to the table at `address`.

@@ -1,14 +1,14 @@
 -- Words of tables of 512 entries over pages of 4 KiB, as code makes and reads them.
-use Rattle.std.proofs.Common.{◌≡◌, ◌≢◌, ℕ, zero, suc, ◌+◌, ◌-◌, ◌*◌, ◌/◌, ◌%◌, ◌^◌, ◌<◌, ◌≤◌, ◌↔◌, refl, ap, ◌∙◌, arith, true, false, List, inl, inr}
+use Rattle.std.proofs.Common.{◌≡◌, ◌≢◌, ℕ, zero, suc, ◌+◌, ◌-◌, ◌*◌, ◌/◌, ◌%◌, ◌^◌, ◌<◌, ◌≤◌, ◌↔◌, refl, ap, sym, ◌∙◌, subst, arith, true, false, List, inl, inr}
 use Rattle.std.specs.Prelude.{IsTrue, bit_and, bit_or, IsBitSet, ◌==◌}
 use Rattle.std.specs.Int.Bits.{or_zero_l, or_zero_r, and_zero_r}
-use Rattle.std.proofs.lemmas.Nat.{shl_whole, shr_split, shr_high, pow_pos, or_shifted, or_comm, and_block}
+use Rattle.std.proofs.lemmas.Nat.{mul-le, pow-add, shl_whole, shr_split, shr_high, pow_pos, or_shifted, or_comm, and_block}
 use Rattle.std.proofs.lemmas.Bool.{cases_lt}
 use Rattle.std.proofs.lemmas.Grind.{common_steps}
 use Rattle.pt_model.specs.declared.block.Prot.{Prot}
 use Rattle.pt_model.specs.declared.block.Prot.TheVariants.{Read, ReadWrite}
 use Rattle.pt_model.specs.Layout.{Layout, Found, Reached, is_size, level_of_size, may_write}
-use Rattle.pt_format.specs.Words.{HasSizes, MayBeLeaf, IsLeaf, IsPointer, IsWritten, a_leaf, a_pointer, LeafPage, IsUnder}
+use Rattle.pt_format.specs.Words.{HasSizes, MayBeLeaf, MayBeLeaves, GoBy, IsLeaf, IsPointer, IsWritten, a_leaf, a_pointer, LeafPage, IsUnder}
 use Rattle.pt_format.specs.FourKib.{layout, leaf, pointer, write_bit, size_bit, AreBits, IsLeafOf}
 use Rattle.pt_format.proofs.EntryBits.{or_low, and_low, one_bit_set}
 use Rattle.pt_format.proofs.Permissions.{common_all}
@@ -214,3 +214,60 @@ leaf_within of_leaf of_pointer levels input step walk level word page log2 prot 
     let l = leaf_of_may of_leaf of_pointer levels input step walk level log2 leaf.out leaf.part word prot leaf.may leaf.word_is in
     let o : word / 2 ^ 12 % 2 ^ 40 ≡ leaf.out = ap (λ n. n / 2 ^ 12 % 2 ^ 40) leaf.word_is ∙ leaf_out of_leaf level leaf.out prot low e l.in_output in
     rw o (page_within level leaf.out page l.low_level l.in_output l.aligned)
+
+-- a leaf and some pages more
+leaf_more : (bits level out pages : ℕ) (prot : Prot) → leaf bits level (out + pages) prot ≡ leaf bits level out prot + pages * 2 ^ 12
+leaf_more bits level out pages prot = omega arith
+
+one_word : (k : ℕ) → k ≡ 0 → 2 ^ k ≡ 1
+one_word k e = ap (λ (j : ℕ). 2 ^ j) e
+
+by_one : (e m : ℕ) → m ≡ 1 → e / m ≡ e
+by_one e m is = ap (λ (k : ℕ). e / k) is ∙ (let z : e / 1 ≡ e = omega arith in z)
+
+-- the words of equal blocks that follow each other go by the step of their size
+pub run_of : (of_leaf of_pointer levels input : ℕ) (step : ℕ → ℕ → ℕ → Found) (walk : List ℕ → ℕ → Reached) (level log2 out : ℕ) (prot : Prot) (count by : ℕ) →
+    of_leaf < 2 ^ 7 → of_leaf % 2 ^ 2 ≡ 1 → 1 ≤ count → MayBeLeaves (layout of_leaf of_pointer levels input step walk) level log2 out prot count →
+    by ≡ 2 ^ (12 + log2) → GoBy (layout of_leaf of_pointer levels input step walk) level log2 out prot count by
+run_of of_leaf of_pointer levels input step walk level log2 out prot count by low ends some leaves is = record {
+  goes = λ e less.
+      let block : ℕ = out + e / 2 ^ (log2 - 9 * level) * 2 ^ log2 in
+      let at = place e less in
+      let sizes : 2 ^ (12 + log2) ≡ 2 ^ 12 * 2 ^ log2 = pow-add 2 12 log2 in
+      ap (λ (q : ℕ). leaf of_leaf level (out + q * 2 ^ log2) prot) at
+      ∙ leaf_more of_leaf level out (e * 2 ^ log2) prot
+      ∙ ap (λ (s : ℕ). leaf of_leaf level out prot + s) (sum e);
+  within = λ e less.
+      let may = leaves e less in
+      let at = place e less in
+      let l = low_bits of_leaf level prot low ends in
+      let block : out + e * 2 ^ log2 + 2 ^ log2 ≤ 2 ^ 40 = subst (λ (q : ℕ). out + q * 2 ^ log2 + 2 ^ log2 ≤ 2 ^ 40) at may.within in
+      let pages = pow_pos log2 in
+      let s = sum e in
+      let m = l.2 in
+      omega arith;
+}
+  where
+    first : 0 < count * 2 ^ (log2 - 9 * level)
+    first = let w = pow_pos (log2 - 9 * level) in let h = mul-le 1 1 count (2 ^ (log2 - 9 * level)) some (omega arith) in omega arith
+
+    size : (9 * level ≡ log2) × (level < 3)
+    size = let may = leaves 0 first in size_of_level of_leaf of_pointer levels input step walk level log2 may.a_size may.at_level
+
+    words : 2 ^ (log2 - 9 * level) ≡ 1
+    words = one_word (log2 - 9 * level) (let e = size.0 in omega arith)
+
+    place : (e : ℕ) → e < count * 2 ^ (log2 - 9 * level) → e / 2 ^ (log2 - 9 * level) ≡ e
+    place e less = by_one e (2 ^ (log2 - 9 * level)) words
+
+    sum : (e : ℕ) → e * 2 ^ log2 * 2 ^ 12 ≡ e * by
+    sum e = (let g : e * 2 ^ log2 * 2 ^ 12 ≡ e * (2 ^ 12 * 2 ^ log2) = omega arith in g) ∙ ap (λ (k : ℕ). e * k) (sym (pow-add 2 12 log2)) ∙ ap (λ (k : ℕ). e * k) (sym is)
+
+pub size_few : (of_leaf of_pointer levels input : ℕ) (step : ℕ → ℕ → ℕ → Found) (walk : List ℕ → ℕ → Reached) (level log2 out : ℕ) (prot : Prot) (count : ℕ) →
+    1 ≤ count → MayBeLeaves (layout of_leaf of_pointer levels input step walk) level log2 out prot count → log2 < 52
+size_few of_leaf of_pointer levels input step walk level log2 out prot count some leaves =
+    let w = pow_pos (log2 - 9 * level) in
+    let h = mul-le 1 1 count (2 ^ (log2 - 9 * level)) some (omega arith) in
+    let may = leaves 0 (omega arith) in
+    let size = size_of_level of_leaf of_pointer levels input step walk level log2 may.a_size may.at_level in
+    let low = size.0 in let few = size.1 in omega arith

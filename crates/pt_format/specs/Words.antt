@@ -1,5 +1,5 @@
 -- The words that a format writes.
-use Rattle.std.specs.Prelude.{◌≡◌, ℕ, ◌+◌, ◌-◌, ◌*◌, ◌%◌, ◌^◌, ◌<◌, ◌≤◌, ◌↔◌, IsTrue, IsBitSet}
+use Rattle.std.specs.Prelude.{◌≡◌, ℕ, ◌+◌, ◌-◌, ◌*◌, ◌/◌, ◌%◌, ◌^◌, ◌<◌, ◌≤◌, ◌↔◌, IsTrue, IsBitSet}
 use Rattle.pt_model.specs.declared.block.Prot.{Prot}
 use Rattle.pt_model.specs.Layout.{Layout, is_size, level_of_size, output_pages, pages_of_entry}
 
@@ -15,6 +15,22 @@ pub record MayBeLeaf (f : Layout) (level log2 out : ℕ) (prot : Prot) (part : �
   pub within : out + 2 ^ log2 ≤ output_pages f
   pub stated : IsTrue (f.states prot)
   pub a_part : part < 2 ^ (log2 - f.index * level)
+
+-- the words of one block, of the size of a leaf of a level
+abbrev pub words_in : Layout → (level log2 : ℕ) → ℕ
+words_in f level log2 = 2 ^ (log2 - f.index * level)
+
+-- each word of `count` equal blocks that follow each other may be written, the first block being onto the pages from `out`
+abbrev pub MayBeLeaves : Layout → (level log2 out : ℕ) → Prot → (count : ℕ) → Type 0
+MayBeLeaves f level log2 out prot count =
+    (e : ℕ) → e < count * words_in f level log2 →
+    MayBeLeaf f level log2 (out + e / words_in f level log2 * 2 ^ log2) prot (e % words_in f level log2)
+
+-- the words of so many blocks go by a step, and each is one of 64 bits
+pub record GoBy (f : Layout) (level log2 out : ℕ) (prot : Prot) (blocks step : ℕ) : Type 0 where
+  pub goes : (e : ℕ) → e < blocks * words_in f level log2 →
+      f.leaf level log2 (out + e / words_in f level log2 * 2 ^ log2) prot (e % words_in f level log2) ≡ f.leaf level log2 out prot 0 + e * step
+  pub within : (e : ℕ) → e < blocks * words_in f level log2 → f.leaf level log2 out prot 0 + e * step < 2 ^ 64
 
 pub record IsTableLevel (f : Layout) (level : ℕ) : Type 0 where
   pub above : 1 ≤ level

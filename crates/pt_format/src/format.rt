@@ -1,14 +1,15 @@
 //! The trait of formats.
 
-ghost use Rattle.std.specs.Prelude.{◌≡◌, ℕ, ◌<◌, IsTrue, Bool};
+ghost use Rattle.std.specs.Prelude.{◌≡◌, ℕ, ◌<◌, ◌≤◌, IsTrue, Bool};
 ghost use Rattle.pt_model.specs.Layout.{Layout, input_pages, output_pages, is_common};
 ghost use Rattle.pt_model.specs.declared.block.Prot.{Prot};
-ghost use Rattle.pt_format.specs.Words.{HasSizes, MayBeLeaf, IsTableAddress, IsTableLevel, LeafPage, IsLeaf, IsPointer, IsWritten};
+ghost use Rattle.pt_format.specs.Words.{HasSizes, MayBeLeaf, MayBeLeaves, GoBy, IsTableAddress, IsTableLevel, LeafPage, IsLeaf, IsPointer, IsWritten};
 ghost use Rattle.pt_format.specs.Laws.{HasConstants, IsLayout, WordsDiffer};
 ghost use Rattle.pt_format.specs.Reading.{ReadsAs};
 ghost use Rattle.pt_format.specs.Manual.{StepsAgree, IsWalk};
 
 use crate::read::Read;
+use crate::word_run::WordRun;
 use pt_model::Prot;
 
 /// A format of page tables. Its functions make and read words and take no memory. Levels count from 0,
@@ -78,6 +79,15 @@ pub trait Format: Drop {
     fn leaf_word(level: u32, log2: u32, out: u64, prot: Prot, part: u64) -> u64
         requires { MayBeLeaf layout level log2 out prot part }
         ensures { result ≡ layout.leaf level log2 out prot part };
+
+    /// How many of `count` equal blocks that follow each other, the first onto the pages from `out`, have words
+    /// that go by one step, and that step.
+    fn word_run(level: u32, log2: u32, out: u64, prot: Prot, count: u64) -> WordRun
+        requires some { 1 ≤ count }
+        requires leaves { MayBeLeaves layout level log2 out prot count }
+        ensures some { 1 ≤ result.blocks }
+        ensures few { result.blocks ≤ count }
+        ensures run { GoBy layout level log2 out prot result.blocks result.step };
 
     /// The pointer to the table at `address`.
     fn table_word(level: u32, address: u64) -> u64

@@ -23,6 +23,14 @@ pub fn sizes(level: u32) -> u64
     }
 }
 
+/// What is added to the word of a block to make that of the next one of its size.
+pub fn step(log2: u32) -> u64
+    requires { log2 < 52 }
+    ensures { result ≡ 2 ^ (12 + log2) }
+{
+    1 << (12 + log2)
+}
+
 /// The output page of an input page under a leaf of a level.
 pub fn out_under(level: u32, word: u64, page: u64) -> u64
     requires { level < 6 }

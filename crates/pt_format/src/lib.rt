@@ -11,6 +11,7 @@ pub mod four_kib;
 mod frame_address;
 mod pages;
 mod read;
+mod word_run;
 
 pub use format::Format;
 pub use frame_address::is_frame_address;
@@ -18,3 +19,4 @@ pub use pages::{byte_of, has_page, is_whole, page_of, page_under, pages_of, rang
 pub use pt_model::{Block, Prot};
 pub use pt_num::Span;
 pub use read::Read;
+pub use word_run::WordRun;

@@ -11,37 +11,44 @@ use Rattle.pt_model.specs.Tables.{child_at, end_of_table, is_spine, position_ove
 use Rattle.pt_model.proofs.Positions.{sorted_filter}
 use Rattle.pt_format.specs.Laws.{IsLayout}
 use Rattle.pt_view.specs.declared.view.View.{View}
-use Rattle.pt_view.specs.declared.view.Piece.{Piece}
 use Rattle.pt_view.specs.declared.view.Absence.{Absence}
 use Rattle.pt_view.specs.declared.view.Absence.TheVariants.{Zero}
 use Rattle.pt_view.specs.declared.holder.Seen.{Seen}
 use Rattle.pt_view.specs.declared.holder.Seen.TheVariants.{Empty, Leaf, Entered}
 use Rattle.pt_view.specs.Lists.{AddsPositions, IsAmong, SamePositions}
 use Rattle.pt_view.specs.Views.{SameHistory}
-use Rattle.pt_view.specs.Calls.{IsEntryAt, IsVacant, Looked, MeetsEntry, Went, zero as looked_zero, leaf as looked_leaf, table as looked_table, above, entry_first, is_under, left, lowest, pieces_at}
+use Rattle.pt_view.specs.Calls.{IsEntryAt, IsVacant, Looked, MeetsEntry, Went, zero as looked_zero, leaf as looked_leaf, table as looked_table, above, entry_first, is_under, left, lowest}
 use Rattle.pt_walk.specs.Walks.{AddsAbsences, Walked, entry_number}
 use Rattle.pt_walk.proofs.Quotients.{entry_is_table}
 use Rattle.pt_walk.proofs.OverPage.{child_is, entry_first_is, entry_meets, number_within}
 use Rattle.pt_walk.proofs.Loads.{above_snoc, lowest_snoc, walked_left, walked_on}
 use Rattle.pt_map.specs.declared.part.Part.{Part}
 use Rattle.pt_map.specs.Parts.{IsPartAt, IsEntryPart, needs, needs_below, tiles}
-use Rattle.pt_map.specs.Filled.{HasNoPiece}
 use Rattle.pt_map.specs.Absent.{Counted, shows}
 use Rattle.pt_map.proofs.Among.{among_filtered, among_passes, sorted_once}
 use Rattle.pt_map.proofs.Needs.{LiesUnder, below_under, needs_over, needs_sorted}
 
--- A load of an entry without a piece that went nowhere: it was zero.
+-- A load of an entry that was zero.
 record Shut (f : Layout) (tells : Type 0) (v : View) (p : Position) (number : ℕ) (w : View) : Type 0 where
   path : w.path ≡ v.path
   known : SamePositions v.known w.known
   vacant : IsVacant f v p number
   told : tells → (w.taken ≡ v.taken) × (w.absent ≡ v.absent ++ (if nat_lt 0 p.level then Zero (child_at f p number) ∷ [] else [])) × (w.stores ≡ v.stores)
 
-shut : (f : Layout) (tells alone : Type 0) (v : View) (p : Position) (number : ℕ) (seen : Seen) (w : View) → ¬ (seen ≡ Entered) → pieces_at f p number v.pieces ≡ 0 →
+abbrev WhereShut : Layout → (tells : Type 0) → View → Position → (number : ℕ) → View → Seen → Type 0
+WhereShut f tells v p number w Empty = Shut f tells v p number w
+WhereShut f tells v p number w (Leaf word) = Unit {0}
+WhereShut f tells v p number w Entered = Unit {0}
+
+where_shut : (f : Layout) (tells alone : Type 0) (v : View) (p : Position) (number : ℕ) (seen : Seen) (w : View) →
+    Looked f tells alone v p number seen w → WhereShut f tells v p number w seen
+where_shut f tells alone v p number _ _ (looked_zero w path known vacant told) = record { path = path; known = known; vacant = vacant; told = told }
+where_shut f tells alone v p number _ _ (looked_leaf w word piece path known told member here once is) = tt
+where_shut f tells alone v p number _ _ (looked_table w frame path known told high none owned) = tt
+
+shut : (f : Layout) (tells alone : Type 0) (v : View) (p : Position) (number : ℕ) (seen : Seen) (w : View) → seen ≡ Empty →
     Looked f tells alone v p number seen w → Shut f tells v p number w
-shut f tells alone v p number _ _ other none (looked_zero w path known vacant told) = record { path = path; known = known; vacant = vacant; told = told }
-shut f tells alone v p number _ _ other none (looked_leaf w word piece path known told member here once is) = absurd (omega arith)
-shut f tells alone v p number _ _ other none (looked_table w frame path known told high none' owned) = absurd (other refl)
+shut f tells alone v p number seen w e l = subst (WhereShut f tells v p number w) e (where_shut f tells alone v p number seen w l)
 
 -- One that went into the child's table.
 record Opened (f : Layout) (tells alone : Type 0) (v : View) (p : Position) (number : ℕ) (w : View) : Type 0 where
@@ -67,12 +74,7 @@ opened : (f : Layout) (tells alone : Type 0) (v : View) (p : Position) (number :
     Looked f tells alone v p number seen w → Opened f tells alone v p number w
 opened f tells alone v p number seen w e l = subst (WhereEntered f tells alone v p number w) e (where_entered f tells alone v p number seen w l)
 
--- a range stays clear where the pieces stay
-pub clear_on : (f : Layout) (v w : View) (first end : ℕ) → w.pieces ≡ v.pieces → HasNoPiece f v first end → HasNoPiece f w first end
-clear_on f v w first end same clear = λ page level from to.
-    subst (λ (xs : List Piece). pieces_at f (position_over f page level) (entry_number f level page) xs ≡ 0) (sym same) (clear page level from to)
-
-module _ (f : Layout) (good : IsLayout f) (tells alone : Type 0) (v : View) (x : Part) (level : ℕ) (at : IsEntryPart f v x level) (clear : HasNoPiece f v x.first x.end)
+module _ (f : Layout) (good : IsLayout f) (tells alone : Type 0) (v : View) (x : Part) (level : ℕ) (at : IsEntryPart f v x level)
     (n : ℕ) (number : n ≡ entry_number f level x.first) where
   abbrev place : Position
   place = position_over f x.first level
@@ -94,9 +96,6 @@ module _ (f : Layout) (good : IsLayout f) (tells alone : Type 0) (v : View) (x :
       let r = at.at.range in
       let some = r.some in let from = r.from in let to = r.to in
       subst (MeetsEntry f v) (sym number) (record { position = place; entry = at_entry; meets = entry_meets f x.first level v (from, omega arith) })
-
-  no_piece : pieces_at f place here v.pieces ≡ 0
-  no_piece = clear x.first level (omega arith) at.at.part.some
 
   child_over : child_at f place here ≡ position_over f x.first (level - 1)
   child_over = child_is f x.first level level_high
@@ -144,9 +143,9 @@ module _ (f : Layout) (good : IsLayout f) (tells alone : Type 0) (v : View) (x :
     }
 
     -- The entry was zero.
-    module _ (other : ¬ (seen ≡ Entered)) where
+    module _ (empty : seen ≡ Empty) where
       was_shut : Shut f tells v place here w
-      was_shut = shut f tells alone v place here seen w other no_piece looked
+      was_shut = shut f tells alone v place here seen w empty looked
 
       pub shut_walked : Walked tells v w
       shut_walked = let s = was_shut in walked (λ p h. (s.known p).1 h) (λ t. (s.told t).0) (λ t. (s.told t).2) (λ t. (_, (s.told t).1))
@@ -207,9 +206,6 @@ module _ (f : Layout) (good : IsLayout f) (tells alone : Type 0) (v : View) (x :
             low = (let l = at.lower in let e : f.index * (level - 1 + 1) ≡ f.index * level = ap (λ k. f.index * k) same in omega arith);
             starts = went.range.levels ∙ at.at.starts;
           }
-
-      pub open_clear : HasNoPiece f w x.first x.end
-      open_clear = clear_on f v w x.first x.end went.book.pieces clear
 
       module _ (u : View) (deeper : Walked tells w u) (path : u.path ≡ w.path) where
         pub some_path : 0 < length u.path

@@ -17,7 +17,7 @@ use Rattle.pt_view.specs.declared.view.Absence.{Absence}
 use Rattle.pt_view.specs.declared.view.Change.{Change}
 use Rattle.pt_view.specs.declared.view.Change.TheVariants.{Written}
 use Rattle.pt_view.specs.Lists.{IsAmong, IsIn, one_if}
-use Rattle.pt_view.specs.Pieces.{IsOneOf, all_pieces, number_of, table_of}
+use Rattle.pt_view.specs.Pieces.{IsOneOf, add_pieces, all_pieces, number_of, table_of}
 use Rattle.pt_view.specs.Calls.{lowest, pieces_at}
 use Rattle.pt_view.specs.Views.{SameBook, SameRange}
 use Rattle.pt_walk.specs.Walks as walks
@@ -29,7 +29,7 @@ use Rattle.pt_map.specs.declared.refused.MapRefused.{MapRefused}
 use Rattle.pt_map.specs.declared.refused.MapRefused.TheVariants as refused
 use Rattle.pt_map.specs.Absent.{Counted, IsMissing, is_shown, shows}
 use Rattle.pt_map.specs.Answers.{FindsEach, IsRefused, KeepsPurse}
-use Rattle.pt_map.specs.Filled.{Filled, HasRoom, HasNoPiece, MayFill, Spends, add_pieces}
+use Rattle.pt_map.specs.Filled.{Filled, HasRoom, HasNoPiece, MayFill, Spends}
 use Rattle.pt_map.specs.Parts.{IsPartAt, needs, needs_below, tiles}
 use Rattle.pt_map.specs.Requests.{Gathered, IsLackOf, IsRefusedBelow, LacksFrames, MappedBelow, MayMap}
 use Rattle.pt_map.proofs.TablesAfter.{no_table_in, tile_in}

@@ -12,9 +12,8 @@ use Rattle.pt_model.specs.Book.{add_blocks}
 use Rattle.pt_model.specs.Tiling.{IsTiling}
 use Rattle.pt_format.specs.Laws.{IsLayout}
 use Rattle.pt_view.specs.declared.view.Piece.{Piece}
-use Rattle.pt_view.specs.Pieces.{add_piece, all_pieces, first_of, pieces_of, words_of}
+use Rattle.pt_view.specs.Pieces.{add_piece, add_pieces, all_pieces, first_of, pieces_of, words_of}
 use Rattle.pt_walk.proofs.OverPage.{size_split}
-use Rattle.pt_map.specs.Filled.{add_pieces}
 
 -- Pieces by their first pages: each at most at a page, each from a page on, each before a page, and rising from one.
 

@@ -1,9 +1,10 @@
 -- The entries of a run of blocks: each has one word of one of its blocks, and all are in one table.
-use Rattle.std.proofs.Common.{◌≡◌, ℕ, zero, suc, ◌+◌, ◌-◌, ◌*◌, ◌/◌, ◌%◌, ◌^◌, ◌<◌, ◌≤◌, List, [], ◌∷◌, ◌++◌, inl, inr, refl, ap, sym, ◌∙◌, subst, arith}
+use Rattle.std.proofs.Common.{◌≡◌, ℕ, zero, suc, ◌+◌, ◌-◌, ◌*◌, ◌/◌, ◌%◌, ◌^◌, ◌<◌, ◌≤◌, List, [], ◌∷◌, ◌++◌, inl, inr, refl, ap, sym, ◌∙◌, subst, arith, max}
 use Rattle.std.specs.Prelude.{◌↔◌, map}
 use Rattle.std.specs.List.{range_with_len}
 use Rattle.std.proofs.lemmas.Bool.{cases_lt}
 use Rattle.std.proofs.lemmas.List.{map-append}
+use Rattle.std.proofs.lemmas.List.Sums.{fold-append}
 use Rattle.std.proofs.lemmas.List.FromFn.{map-range_with_len_more}
 use Rattle.std.proofs.lemmas.Nat.{mod_below, mod_low, mul-le, pow-add, pow_below, pow_pos, shl-shr, shr_high, shr_split}
 use Rattle.std.proofs.Math.Nat.{div-lt_iff_lt-mul}
@@ -11,17 +12,19 @@ use Rattle.pt_model.specs.declared.position.Position.{Position}
 use Rattle.pt_model.specs.declared.block.Block.{Block}
 use Rattle.pt_model.specs.declared.block.Prot.{Prot}
 use Rattle.pt_model.specs.Layout.{Layout, IsLegalBlock, end_of, level_of_size, pages_of_entry, pages_of_table}
-use Rattle.pt_model.specs.Tables.{all_needed, end_of_table, position_over}
+use Rattle.pt_model.specs.Tables.{add_positions, all_needed, end_of_table, least_top, position_over}
 use Rattle.pt_model.specs.Tiling.{IsGreatestSize, block_at, tiling}
+use Rattle.pt_model.specs.Sets.{IsSorted}
+use Rattle.pt_model.proofs.Positions.{member_adds, sorted_adds}
 use Rattle.pt_model.proofs.TilingFacts.{tiling_is, tiling_unique}
 use Rattle.pt_format.specs.Laws.{IsLayout}
-use Rattle.pt_format.specs.Words.{MayBeLeaf}
+use Rattle.pt_format.specs.Words.{GoBy, MayBeLeaf, MayBeLeaves}
 use Rattle.pt_tile.specs.Runs.{run_blocks}
 use Rattle.pt_view.specs.declared.view.View.{View}
 use Rattle.pt_view.specs.declared.view.Piece.{Piece}
 use Rattle.pt_view.specs.Lists.{IsAmong}
 use Rattle.pt_view.specs.Pieces.{IsOneOf, all_pieces, number_of, pieces_of, words_of}
-use Rattle.pt_view.specs.Calls.{IsWritten, MayWrite, pieces_at}
+use Rattle.pt_view.specs.Calls.{ArePieces, IsWritten, IsWrittenRun, MayPut, MayWrite, MayWriteRun, off_spine, pieces_at, top_over}
 use Rattle.pt_walk.specs.Walks.{entry_number}
 use Rattle.pt_num.proofs.Bits.{exponent_below}
 use Rattle.pt_walk.proofs.Quotients.{pages_few, quotient}
@@ -34,8 +37,10 @@ use Rattle.pt_map.proofs.Runs.{run_needs}
 use Rattle.pt_map.proofs.Puts.{piece_at, stands_not}
 use Rattle.pt_map.proofs.Steps.{one_greatest, outputs_few, step_greatest}
 use Rattle.pt_map.proofs.Ways.{positions, tables_way, way_tables}
-use Rattle.pt_map.proofs.Words.{first_whole, more_low, number_at, piece_number, size_is}
-use Rattle.pt_map.proofs.Writes.{IsPut, block_part, may_leaf, may_write, put_filled, put_next}
+use Rattle.pt_map.proofs.Words.{first_whole, more_low, number_at, piece_number, size_is, word_is}
+use Rattle.pt_map.proofs.Among.{among_member, member_among}
+use Rattle.pt_map.proofs.Links.{keeps_absences}
+use Rattle.pt_map.proofs.Writes.{IsPut, among_off, block_part, may_leaf, may_put, may_write, put_filled, put_next, put_none, top_reaches}
 
 -- block number `q` of a run, the piece of its entry number `e` where each block has so many words, and the pieces of
 -- the entries before entry `n`
@@ -323,12 +328,83 @@ module _ (f : Layout) (good : IsLayout f) (tells : Type 0) (v : View) (b : Block
       let few = pages_few f good in
       exponent_below b.log2 (2 ^ b.log2) (omega arith) (omega arith)
 
+  -- the first word of the first block, and all words
+  pub first_leaf : MayBeLeaf f level b.log2 b.out b.prot 0
+  first_leaf =
+      let zero_of : 0 ≡ 0 * 2 ^ bits + 0 = omega arith in
+      let q : 0 / 2 ^ bits ≡ 0 = ap (λ (n : ℕ). n / 2 ^ bits) zero_of ∙ shr_high 0 bits 0 (pow_pos bits) in
+      let r : 0 % 2 ^ bits ≡ 0 = ap (λ (n : ℕ). n % 2 ^ bits) zero_of ∙ mod_low 0 bits 0 (pow_pos bits) in
+      let out : b.out + 0 / 2 ^ bits * 2 ^ b.log2 ≡ b.out = ap (λ (n : ℕ). b.out + n * 2 ^ b.log2) q ∙ (let z : b.out + 0 * 2 ^ b.log2 ≡ b.out = omega arith in z) in
+      subst (λ (i : ℕ). MayBeLeaf f level b.log2 b.out b.prot i) r (subst (λ (o : ℕ). MayBeLeaf f level b.log2 o b.prot (0 % 2 ^ bits)) out (leaf_in 0 entries_some))
+
+  pub all_leaves : MayBeLeaves f level b.log2 b.out b.prot count
+  all_leaves = λ e less. leaf_in e less
+
   -- a table has all its entries
   pub entries_few : count * 2 ^ bits ≤ 2 ^ f.index
   entries_few = elim (cases_lt 0 (count * 2 ^ bits)) [
     | inr none ↦ omega arith
     | inl some ↦ (let low = number_low (count * 2 ^ bits - 1) (omega arith) in omega arith)
   ]
+
+  -- The words of all its entries go by a step, from that of its first entry.
+  module _ (number word step : ℕ) (at : number ≡ entry_number f level b.first) (first : word ≡ f.leaf level b.log2 b.out b.prot 0) (by : GoBy f level b.log2 b.out b.prot count step) where
+    pub are_pieces : ArePieces f v number (count * 2 ^ bits) word step (piece_in b (2 ^ bits))
+    are_pieces = record {
+      word_is = λ e less. word_is f good (block e less) (legal e less) level here (e % 2 ^ bits) ∙ by.goes e less ∙ ap (λ (n : ℕ). n + e * step) (sym first);
+      may = λ e less.
+          subst (λ (k : ℕ). MayPut f v k (piece_in b (2 ^ bits) e)) (number_is e less ∙ (let z : entry_number f level b.first + e ≡ number + e = omega arith in z))
+          (may_put f good tells v (block e less) level (may_block e less) (one e less) here v (e % 2 ^ bits) (r_low e less) [] [] (put_none f tells v)
+          (λ p h. absurd (let n : 0 < 0 = h in omega arith)) (λ x h. absurd h));
+    }
+
+    pub may_run_words : MayWriteRun f v number (count * 2 ^ bits) word step
+    may_run_words = record {
+      some = entries_some;
+      within = λ e less. subst (λ (n : ℕ). n + e * step < 2 ^ 64) (sym first) (by.within e less);
+      piece = piece_in b (2 ^ bits);
+      are = are_pieces;
+    }
+
+    -- the top reaches over each of its blocks
+    top_kept : (n : ℕ) → n ≤ count * 2 ^ bits → top_over f v.levels v.top (pieces_to b (2 ^ bits) n) ≡ v.top
+    top_kept zero few = refl
+    top_kept (suc n) few =
+        let reach = top_reaches f good tells v (block n (omega arith)) level (may_block n (omega arith)) (one n (omega arith)) here in
+        let more : pieces_to b (2 ^ bits) (suc n) ≡ pieces_to b (2 ^ bits) n ++ piece_in b (2 ^ bits) n ∷ [] =
+        ap (pieces_to b (2 ^ bits)) (let e : suc n ≡ n + 1 = omega arith in e) ∙ map-range_with_len_more (piece_in b (2 ^ bits)) 0 n n (let z : 0 + n ≡ n = omega arith in z) in
+        ap (top_over f v.levels v.top) more
+        ∙ fold-append (λ (t : ℕ) (x : Piece). max t (least_top f v.levels (end_of x.block))) v.top (pieces_to b (2 ^ bits) n) (piece_in b (2 ^ bits) n ∷ [])
+        ∙ ap (λ (t : ℕ). max t (least_top f v.levels (end_of (block n (omega arith))))) (top_kept n (omega arith))
+        ∙ (let e : max v.top (least_top f v.levels (end_of (block n (omega arith)))) ≡ v.top = omega arith in e)
+
+    -- they were written
+    pub put_run : (w : View) → IsWrittenRun f tells number (count * 2 ^ bits) word step v w → IsPut f tells v w (pieces_to b (2 ^ bits) (count * 2 ^ bits)) (positions v.path)
+    put_run w written = record {
+      range = written.range;
+      purse = written.purse;
+      path = written.path;
+      prepared = written.prepared;
+      top = written.top (piece_in b (2 ^ bits)) are_pieces ∙ top_kept (count * 2 ^ bits) (let e : count * 2 ^ bits ≤ count * 2 ^ bits = omega arith in e);
+      pieces = written.pieces (piece_in b (2 ^ bits)) are_pieces;
+      tables = λ p.
+          let m = member_adds (off_spine v.levels v.path) v.tables p in
+          let o = among_off v.levels v.path p in (
+            (λ h. elim (m.0 (among_member (add_positions v.tables (off_spine v.levels v.path)) p (subst (λ (ps : List Position). IsAmong ps p) written.tables h))) [
+              | inl was ↦ inl (member_among v.tables p was)
+              | inr now ↦ inr (o.0 (member_among (off_spine v.levels v.path) p now))
+            ]),
+            (λ h. subst (λ (ps : List Position). IsAmong ps p) (sym written.tables) (member_among (add_positions v.tables (off_spine v.levels v.path)) p (m.1 (elim h [
+              | inl was ↦ inl (among_member v.tables p was)
+              | inr k ↦ inr (among_member (off_spine v.levels v.path) p (o.1 k))
+            ])))),
+          );
+      in_order = λ s. subst IsSorted (sym written.tables) (sorted_adds (off_spine v.levels v.path) v.tables s);
+      busy = written.busy;
+      known = written.known;
+      told = λ t. ((written.told t).0, written.stores t (piece_in b (2 ^ bits)) are_pieces);
+      absent = λ t. keeps_absences v w (written.told t).1;
+    }
 
   -- The entries before it were written.
   module _ (e : ℕ) (less : e < count * 2 ^ bits) (w : View) (needed : List Position) (put : IsPut f tells v w (pieces_to b (2 ^ bits) e) needed)

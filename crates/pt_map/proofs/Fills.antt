@@ -18,13 +18,13 @@ use Rattle.pt_view.specs.declared.view.Piece.{Piece}
 use Rattle.pt_view.specs.declared.view.Change.{Change}
 use Rattle.pt_view.specs.declared.view.Change.TheVariants.{Written}
 use Rattle.pt_view.specs.Lists.{IsAmong}
-use Rattle.pt_view.specs.Pieces.{IsOneOf, all_pieces, pieces_of, words_of}
+use Rattle.pt_view.specs.Pieces.{IsOneOf, add_pieces, all_pieces, pieces_of, words_of}
 use Rattle.pt_view.specs.Calls.{above, left, lowest, pieces_at, with_table}
 use Rattle.pt_walk.specs.Walks.{IsWayDown, entry_number}
 use Rattle.pt_walk.proofs.Loads.{above_snoc, adds_absences_on, lowest_snoc, same_range_on}
 use Rattle.pt_walk.proofs.Quotients.{entry_is_table}
 use Rattle.pt_map.specs.declared.part.Part.{Part}
-use Rattle.pt_map.specs.Filled.{Filled, HasNoPiece, HasRoom, IsBlockOf, IsDeeper, IsTableIn, MayFill, MayGoInto, add_pieces, next_table}
+use Rattle.pt_map.specs.Filled.{Filled, HasNoPiece, HasRoom, IsBlockOf, IsDeeper, IsTableIn, MayFill, MayGoInto, next_table}
 use Rattle.pt_map.specs.Parts.{IsEntryPart, IsFirstTo, IsPart, from, needs, needs_below, step, tiles}
 use Rattle.pt_map.proofs.Among.{among_filtered, among_member, among_passes, member_among}
 use Rattle.pt_map.proofs.Firsts.{block_left, block_right, cut_part, cut_step, first_block, first_from, first_level, first_split, first_to, rest_low, rest_part, tile_of}

@@ -18,18 +18,18 @@ use Rattle.pt_view.specs.declared.view.Node.{Node}
 use Rattle.pt_view.specs.declared.view.Absence.{Absence}
 use Rattle.pt_view.specs.Lists.{IsAmong, places}
 use Rattle.pt_view.specs.Calls.{lowest}
-use Rattle.pt_walk.specs.Walks.{Walked}
+use Rattle.pt_walk.specs.Walks.{IsClear, Walked}
+use Rattle.pt_walk.proofs.Ranges.{clear_from, clear_on}
 use Rattle.pt_walk.proofs.Loads.{walked_on}
 use Rattle.pt_map.specs.declared.part.Part.{Part}
 use Rattle.pt_map.specs.Parts.{IsPart, IsPartAt, IsEntryPart, IsFirstTo, IsRun, from, needs, needs_below, step, tiles, under_entry}
-use Rattle.pt_map.specs.Filled.{HasNoPiece, IsBlockOf}
+use Rattle.pt_map.specs.Filled.{IsBlockOf}
 use Rattle.pt_map.specs.Absent.{Counted, is_shown, shows}
 use Rattle.pt_map.proofs.Among.{among_either, among_filtered, among_left, among_passes, among_right, places_append}
 use Rattle.pt_map.proofs.Firsts.{cut_part, first_from, first_split, first_to, tile_of}
 use Rattle.pt_map.proofs.Runs.{run_from, run_needs, run_tiles}
 use Rattle.pt_map.proofs.Steps.{step_greatest}
 use Rattle.pt_map.proofs.Needs.{LiesUnder, below_under, needs_any, needs_append, same_run}
-use Rattle.pt_map.proofs.Absences.{clear_on}
 use Rattle.pt_map.proofs.Tiled.{split_tiles, under_part}
 
 -- the positions below a level that blocks need
@@ -71,10 +71,10 @@ shown_right f xs ys p h = list_any-append (λ x. shows f x p) xs ys ∙ or_right
 
 -- Two counts, one after the other.
 module _ (f : Layout) (tells alone alone' : Type 0) (still : alone → alone') (u v w : View) (first second all : List Position) (cap m n : ℕ) where
-  pub counted_on : Walked tells u v → Walked tells v w → m < cap → (a : Counted f tells alone u v first cap m) → (b : Counted f tells alone' v w second cap n) →
+  pub counted_on : Walked tells u v → Walked tells v w → (a : Counted f tells alone u v first cap m) → (b : Counted f tells alone' v w second cap n) →
       ((p : Position) → IsAmong a.absent p → IsAmong b.absent p → ⊥) → ((p : Position) → IsAmong all p ↔ (IsAmong first p ⊎ IsAmong second p)) →
       (c : Counted f tells alone u w all cap (min cap (m + n))) × ((p : Position) → IsAmong c.absent p → IsAmong a.absent p ⊎ IsAmong b.absent p)
-  counted_on x y few a b apart parts = (
+  counted_on x y a b apart parts = (
     record {
       absent = a.absent ++ b.absent;
       count_is = (let i = a.count_is in let j = b.count_is in let e = length-append a.absent b.absent in omega arith);
@@ -94,11 +94,11 @@ module _ (f : Layout) (tells alone alone' : Type 0) (still : alone → alone') (
         })
       ];
       others = λ less p h. elim ((parts p).0 h) [
-        | inl i ↦ ⊎_elim (λ q. inl (among_left a.absent b.absent p q)) (λ k. inr (y.known p k)) (a.others few p i)
+        | inl i ↦ ⊎_elim (λ q. inl (among_left a.absent b.absent p q)) (λ k. inr (y.known p k)) (a.others (omega arith) p i)
         | inr j ↦ ⊎_elim (λ q. inl (among_right a.absent b.absent p q)) (λ k. inr k) (b.others (omega arith) p j)
       ];
       all = λ lone less p h. elim ((parts p).0 h) [
-        | inl i ↦ ⊎_elim (λ q. inl (among_left a.absent b.absent p q)) (λ k. inr k) (a.all lone few p i)
+        | inl i ↦ ⊎_elim (λ q. inl (among_left a.absent b.absent p q)) (λ k. inr k) (a.all lone (omega arith) p i)
         | inr j ↦ ⊎_elim (λ q. inl (among_right a.absent b.absent p q)) (λ t. inr (subst (λ (ts : List Position). IsAmong ts p) x.book.tables t)) (b.all (still lone) (omega arith) p j)
       ];
       told = λ t. let i = a.told t in let j = b.told t in (
@@ -262,13 +262,13 @@ module _ (f : Layout) (good : IsLayout f) (tells alone : Type 0) (v w : View) (x
           starts = range.levels ∙ at.starts;
         }
 
-    pub rest_clear : HasNoPiece f v x.first x.end → HasNoPiece f w rest.first rest.end
-    rest_clear clear = λ page high from to.
+    pub rest_clear : IsClear f v x.first x.end level → IsClear f w rest.first rest.end level
+    rest_clear clear =
         let a = gone.first in let e = gone.end in
-        clear_on f v w x.first x.end gone.walked.book.pieces clear page high (omega arith) (omega arith)
+        clear_on f v w rest.first rest.end level gone.walked.book (clear_from f v x.first x.end rest.first rest.end level clear a (omega arith))
 
     -- The first of what is left is gone through.
-    module _ (few : count < cap) (alone' : Type 0) (still : alone → alone') (z : View) (walked : Walked tells w z) (path : z.path ≡ w.path) (page number : ℕ)
+    module _ (alone' : Type 0) (still : alone → alone') (z : View) (walked : Walked tells w z) (path : z.path ≡ w.path) (page number : ℕ)
         (to : IsFirstTo f level rest page) (counted : Counted f tells alone' w z (needs_below f f.levels (up_to rest page) level) cap number) where
       -- each position that was found absent before lies before those found now
       apart : (p : Position) → IsAmong gone.counted.absent p → IsAmong counted.absent p → ⊥
@@ -281,7 +281,7 @@ module _ (f : Layout) (good : IsLayout f) (tells alone : Type 0) (v w : View) (x
       both : (c : Counted f tells alone v z (below f level (gone.gone ++ tiles f (up_to rest page))) cap (min cap (count + number)))
           × ((p : Position) → IsAmong c.absent p → IsAmong gone.counted.absent p ⊎ IsAmong counted.absent p)
       both = counted_on f tells alone alone' still v w z (below f level gone.gone) (needs_below f f.levels (up_to rest page) level) (below f level (gone.gone ++ tiles f (up_to rest page)))
-          cap count number gone.walked walked few gone.counted counted apart (below_append f level gone.gone (tiles f (up_to rest page)))
+          cap count number gone.walked walked gone.counted counted apart (below_append f level gone.gone (tiles f (up_to rest page)))
 
       before_page : page < x.end → (p : Position) → IsAmong both.0.absent p → p.base < page / pages_of_entry f level * pages_of_entry f level
       before_page less p h =
@@ -318,8 +318,8 @@ module _ (f : Layout) (good : IsLayout f) (tells alone : Type 0) (v w : View) (x
           }
           ))
 
-  -- In the end all was gone through, or more than the cap is absent.
-  pub gone_all : ¬ ((rest.first < rest.end) × (count < cap)) → Counted f tells alone v w (needs_below f f.levels x level) cap count
+  -- In the end all was gone through.
+  pub gone_all : ¬ (rest.first < rest.end) → Counted f tells alone v w (needs_below f f.levels x level) cap count
   gone_all stopped =
       let c = gone.counted in
       let wider : (p : Position) → IsAmong (below f level gone.gone) p → IsAmong (needs_below f f.levels x level) p =
@@ -338,7 +338,7 @@ module _ (f : Layout) (good : IsLayout f) (tells alone : Type 0) (v w : View) (x
     where
       nothing_left : count < cap → tiles f rest ≡ []
       nothing_left few = elim (cases_lt rest.first rest.end) [
-        | inl more ↦ absurd (stopped (more, few))
+        | inl more ↦ absurd (stopped more)
         | inr none ↦ (let z : rest.end - rest.first ≡ 0 = omega arith in ap (λ n. tiling f rest.prot rest.first rest.out n) z)
       ]
 
@@ -377,8 +377,8 @@ module _ (f : Layout) (good : IsLayout f) (v : View) (x : Part) (level : ℕ) (a
     pub inner_at : IsEntryPart f v inner level
     inner_at = subst (λ (y : Part). IsEntryPart f v y level) (sym is) under_at
 
-    pub inner_clear : HasNoPiece f v x.first x.end → HasNoPiece f v inner.first inner.end
-    inner_clear clear = subst (λ (y : Part). HasNoPiece f v y.first y.end) (sym is) (λ page high from to. clear page high from (omega arith))
+    pub inner_clear : IsClear f v x.first x.end level → IsClear f v inner.first inner.end level
+    inner_clear clear = subst (λ (y : Part). IsClear f v y.first y.end level) (sym is) (λ page from to. clear page from (omega arith))
 
     pub inner_to : IsFirstTo f level x inner.end
     inner_to = inr (low, ap (λ (y : Part). y.end) is)

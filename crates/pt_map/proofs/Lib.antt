@@ -19,6 +19,7 @@ pub mod Runs
 pub mod Spent
 pub mod Starts
 pub mod Steps
+pub mod Surveys
 pub mod TablesAfter
 pub mod Tallies
 pub mod Tiled
@@ -27,3 +28,4 @@ pub mod Ways
 pub mod Words
 pub mod Writes
 pub mod OneBlock
+pub mod Unsigned

@@ -51,7 +51,7 @@ pub record Done (f : Layout) (tells alone alone_d : Type 0) (v u d w z : View) (
   pub refused : IfErr r (λ e. IsRefusedBelow f tells alone_d d w x level linked e)
   pub left : (front nodes : List Node) → w.path ≡ front ++ nodes → length nodes ≡ root - level + 1 → z ≡ record w { path = front }
 
-module _ (f : Layout) (good : IsLayout f) (tells alone : Type 0) (v u : View) (x : Part) (root : ℕ) (b : Begun f tells alone v u x root) where
+module _ {f : Layout} (good : IsLayout f) {tells alone : Type 0} {v u : View} {x : Part} {root : ℕ} (b : Begun f tells alone v u x root) where
   lawful_here : IsLawful f v.levels (book_of v b.blocks)
   lawful_here = b.lawful b.blocks b.rest
 
@@ -67,7 +67,7 @@ module _ (f : Layout) (good : IsLayout f) (tells alone : Type 0) (v u : View) (x
   pub clear_here : IsClear f u x.first x.end root
   clear_here = way.clear_here f good tells alone b.fixed v b.blocks b.rest b.enough lawful_here x b.part b.from b.to root u b.rooted
 
-module _ (f : Layout) (good : IsLayout f) (tells alone : Type 0) (v u d : View) (x : Part) (root level : ℕ) (h : Reached f tells alone v u d x root level) where
+module _ {f : Layout} (good : IsLayout f) {tells alone : Type 0} {v u d : View} {x : Part} {root level : ℕ} (h : Reached f tells alone v u d x root level) where
   pub may_map : MayMap f d x level
   may_map =
       let b = h.begun in
@@ -106,7 +106,7 @@ module _ (f : Layout) (good : IsLayout f) (tells alone : Type 0) (v u d : View) 
       let b = h.begun in
       way.owns_table f good tells alone b.fixed v b.blocks b.rest b.enough (b.lawful b.blocks b.rest) x b.part b.from b.to root u b.rooted d level h.walked h.range h.down h.low h.clear
 
-module _ (f : Layout) (good : IsLayout f) (tells alone alone_d : Type 0) (v u d w z : View) (x : Part) (root level linked : ℕ) (r : Result (Unit {0}) MapRefused)
+module _ {f : Layout} (good : IsLayout f) {tells alone alone_d : Type 0} {v u d w z : View} {x : Part} {root level linked : ℕ} {r : Result (Unit {0}) MapRefused}
     (h : Done f tells alone alone_d v u d w z x root level linked r) where
   path_stays : (r : Result (Unit {0}) MapRefused) → OnOk r (MappedBelow f tells alone_d d w x level linked) → IfErr r (λ e. IsRefused f tells d w × KeepsPurse d w e) → w.path ≡ d.path
   path_stays (Ok t) m s = m.path
@@ -114,15 +114,15 @@ module _ (f : Layout) (good : IsLayout f) (tells alone alone_d : Type 0) (v u d 
 
   -- the tables over the part are left in the end
   at_rest : z ≡ rested w
-  at_rest = h.left [] w.path refl (ap length (path_stays r h.mapped h.stays) ∙ path_long f good tells alone v u d x root level h.reached)
+  at_rest = h.left [] w.path refl (ap length (path_stays r h.mapped h.stays) ∙ path_long good h.reached)
 
   full_below : (r : Result (Unit {0}) MapRefused) → OnOk r (MappedBelow f tells alone_d d w x level linked) → IfErr r (λ e. IsRefused f tells d w × KeepsPurse d w e) → HasNoEmptyTable f w
   full_below (Ok t) m s =
       let b = h.reached.begun in
-      results.full_mapped f good tells v d b.blocks x level (standing f good tells alone v u d x root level h.reached b.blocks b.rest) alone_d w linked m
+      results.full_mapped f good tells v d b.blocks x level (standing good h.reached b.blocks b.rest) alone_d w linked m
   full_below (Err e) m s =
       let b = h.reached.begun in
-      results.full_refused f good tells v d b.blocks x level (standing f good tells alone v u d x root level h.reached b.blocks b.rest) alone_d w linked e s
+      results.full_refused f good tells v d b.blocks x level (standing good h.reached b.blocks b.rest) alone_d w linked e s
 
   pub full_after : HasNoEmptyTable f z
   full_after = subst (HasNoEmptyTable f) (sym at_rest) (full_below r h.mapped h.stays)
@@ -132,13 +132,13 @@ module _ (f : Layout) (good : IsLayout f) (tells alone alone_d : Type 0) (v u d 
     is_mapped (Err e) m = tt
     is_mapped (Ok t) m = λ blocks rest.
         subst (λ (y : View). IsMapped f tells v y blocks q) (sym at_rest) (subst (λ (y : Request). IsMapped f tells v (rested w) blocks y) request
-        (results.is_mapped f good tells v d blocks x level (standing f good tells alone v u d x root level h.reached blocks rest) alone_d w linked m))
+        (results.is_mapped f good tells v d blocks x level (standing good h.reached blocks rest) alone_d w linked m))
 
     pub is_wanting : (r : Result (Unit {0}) MapRefused) → IfErr r (λ e. IsRefusedBelow f tells alone_d d w x level linked e) → IfErr r (λ e. (blocks : List Block) → IsAtRest f v blocks → IsWanting f tells v z blocks q e)
     is_wanting (Ok t) n = tt
     is_wanting (Err e) n = λ blocks rest.
         subst (λ (y : View). IsWanting f tells v y blocks q e) (sym at_rest) (subst (λ (y : Request). IsWanting f tells v (rested w) blocks y e) request
-        (results.is_wanting f good tells v d blocks x level (standing f good tells alone v u d x root level h.reached blocks rest) alone_d w linked e n))
+        (results.is_wanting f good tells v d blocks x level (standing good h.reached blocks rest) alone_d w linked e n))
 
     -- over a lone holder
     module _ (a : alone_d) (owned : OwnsOver f u x.first level root) where
@@ -146,16 +146,16 @@ module _ (f : Layout) (good : IsLayout f) (tells alone alone_d : Type 0) (v u d 
       is_short (Ok t) n = tt
       is_short (Err e) n = λ blocks rest.
           subst (λ (y : Request). IsShortOf f v blocks y linked e) request
-          (results.is_short_of f good tells v d blocks x level (standing f good tells alone v u d x root level h.reached blocks rest) alone_d w linked
-          a h.reached.range.under (owns_table f good tells alone v u d x root level h.reached owned) e n)
+          (results.is_short_of f good tells v d blocks x level (standing good h.reached blocks rest) alone_d w linked
+          a h.reached.range.under (owns_table good h.reached owned) e n)
 
       pub enough_frames : (r : Result (Unit {0}) MapRefused) → OnOk r (MappedBelow f tells alone_d d w x level linked) →
           OnOk r ((blocks : List Block) → IsAtRest f v blocks → linked + length (lacking f v blocks q) ≤ v.frames)
       enough_frames (Err e) m = tt
       enough_frames (Ok t) m = λ blocks rest.
           subst (λ (y : Request). linked + length (lacking f v blocks y) ≤ v.frames) request
-          (results.enough_frames f good tells v d blocks x level (standing f good tells alone v u d x root level h.reached blocks rest) alone_d w linked m
-          a h.reached.range.under (owns_table f good tells alone v u d x root level h.reached owned))
+          (results.enough_frames f good tells v d blocks x level (standing good h.reached blocks rest) alone_d w linked m
+          a h.reached.range.under (owns_table good h.reached owned))
 
       pub linked_more : (linked_after : ℕ) (r : Result (Unit {0}) MapRefused) → OnOk r (MappedBelow f tells alone_d d w x level linked) →
           OnOk r (alone_d → IsSorted d.tables → OwnsOver f d x.first level f.levels → linked_after + length d.tables ≡ linked + length w.tables) →
@@ -163,15 +163,15 @@ module _ (f : Layout) (good : IsLayout f) (tells alone alone_d : Type 0) (v u d 
       linked_more linked_after (Err e) m counts = tt
       linked_more linked_after (Ok t) m counts = λ blocks rest.
           subst (λ (y : Request). linked_after ≡ linked + length (lacking f v blocks y)) request
-          (results.linked_more f good tells v d blocks x level (standing f good tells alone v u d x root level h.reached blocks rest) alone_d w linked m
-          a h.reached.range.under (owns_table f good tells alone v u d x root level h.reached owned) linked_after (counts a))
+          (results.linked_more f good tells v d blocks x level (standing good h.reached blocks rest) alone_d w linked m
+          a h.reached.range.under (owns_table good h.reached owned) linked_after (counts a))
 
   pub stays_refused : (r : Result (Unit {0}) MapRefused) → IfErr r (λ e. IsRefused f tells d w × KeepsPurse d w e) → IfErr r (λ e. IsRefused f tells v z × KeepsPurse v z e)
   stays_refused (Ok t) s = tt
   stays_refused (Err e) s =
       let b = h.reached.begun in
       subst (λ (y : View). IsRefused f tells v y × KeepsPurse v y e) (sym at_rest)
-      (results.stays_refused f good tells v d b.blocks x level (standing f good tells alone v u d x root level h.reached b.blocks b.rest) alone_d w linked e s b.rest.path)
+      (results.stays_refused f good tells v d b.blocks x level (standing good h.reached b.blocks b.rest) alone_d w linked e s b.rest.path)
 
   -- the view is at rest again, and of the same range
   at_rest_again : (r : Result (Unit {0}) MapRefused) → OnOk r ((blocks : List Block) → IsAtRest f v blocks → IsMapped f tells v z blocks (request_for x)) →
@@ -194,13 +194,13 @@ module _ (f : Layout) (good : IsLayout f) (tells alone alone_d : Type 0) (v u d 
     pub accepts : (r : Result (Unit {0}) MapRefused) → OnOk r (MappedBelow f tells alone_d d w x level linked) → OnOk r ((blocks : List Block) → IsAtRest f v blocks → map_refusal f (book_of v blocks) va pa len ≡ None)
     accepts (Err e) m = tt
     accepts (Ok t) m = λ blocks rest.
-        results.accepts f good tells v d blocks x level (standing f good tells alone v u d x root level h.reached blocks rest) alone_d w linked m
+        results.accepts f good tells v d blocks x level (standing good h.reached blocks rest) alone_d w linked m
         (map_refusal f (book_of v blocks) va pa len) (asked blocks)
 
     pub refuses : (r : Result (Unit {0}) MapRefused) → IfErr r (λ e. IsRefusedBelow f tells alone_d d w x level linked e) → IfErr r (λ e. (blocks : List Block) → IsAtRest f v blocks → map_refusal f (book_of v blocks) va pa len ≡ refusal_of e)
     refuses (Ok t) n = tt
     refuses (Err e) n = λ blocks rest.
-        results.is_refused f good tells v d blocks x level (standing f good tells alone v u d x root level h.reached blocks rest) alone_d w linked e n
+        results.is_refused f good tells v d blocks x level (standing good h.reached blocks rest) alone_d w linked e n
         (map_refusal f (book_of v blocks) va pa len) (asked blocks)
 
 -- the level of a part's first block, as the code makes it

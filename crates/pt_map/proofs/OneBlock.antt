@@ -1,12 +1,13 @@
 -- A part that is one block of the path's last table: nothing is counted, drawn or linked for it.
-use Rattle.std.proofs.Common.{◌≡◌, ℕ, ◌+◌, ◌*◌, ◌%◌, ◌^◌, ◌≤◌, List, [], ◌++◌, length, refl, ap, sym, ◌∙◌, subst, arith}
+use Rattle.std.proofs.Common.{◌≡◌, ℕ, ◌+◌, ◌*◌, ◌/◌, ◌%◌, ◌^◌, ◌≤◌, List, [], ◌++◌, length, refl, ap, sym, ◌∙◌, subst, arith}
 use Rattle.std.proofs.lemmas.List.{append-nil}
 use Rattle.pt_model.specs.declared.block.Block.{Block}
 use Rattle.pt_model.specs.declared.position.Position.{Position}
-use Rattle.pt_model.specs.Layout.{Layout}
+use Rattle.pt_model.specs.Layout.{Layout, pages_of_entry}
 use Rattle.pt_model.specs.Sets.{IsSorted}
 use Rattle.pt_model.specs.Tiling.{block_at}
 use Rattle.pt_format.specs.Laws.{IsLayout}
+use Rattle.pt_format.specs.Words.{MayBeLeaves}
 use Rattle.pt_tile.specs.Runs.{run_blocks}
 use Rattle.pt_view.specs.declared.view.View.{View}
 use Rattle.pt_view.specs.Calls.{held_count}
@@ -19,12 +20,21 @@ use Rattle.pt_map.specs.Filled.{Filled, LinksTables, MayFill}
 use Rattle.pt_map.specs.Parts.{IsPart, IsRun, blocks_of, from, needs, needs_below, part_of, step, tiles}
 use Rattle.pt_map.specs.Requests.{Gathered, MappedBelow, MayMap}
 use Rattle.pt_map.proofs.Belows.{book_kept, mapped_below, may_fill, owns_kept}
+use Rattle.std.proofs.lemmas.Nat.{div-add-mod'}
 use Rattle.pt_map.proofs.Gone.{none_counted, walked_here}
 use Rattle.pt_map.proofs.Runs.{run_shifted}
 use Rattle.pt_map.proofs.Spent.{spends_none}
+use Rattle.pt_map.proofs.Steps.{step_greatest}
 use Rattle.pt_map.proofs.Tallies.{run_counts}
 use Rattle.pt_map.proofs.Tiled.{first_tile}
-use Rattle.pt_map.proofs.Turns.{filled_run, may_run, none_below, run_is_tiles, to_run}
+use Rattle.pt_map.proofs.Turns.{filled_run, may_run, none_below, run_is_tiles, run_leaves, to_run}
+
+distrib : (q m : ℕ) → (q + 1) * m ≡ q * m + m
+distrib q m = grind arith
+
+-- a page that a number divides, and one that number further
+ends_there : (first end m : ℕ) → first % m ≡ 0 → end ≡ first + m → end ≤ (first / m + 1) * m
+ends_there first end m aligned ends = omega (arith, div-add-mod' first m, aligned, ends, distrib (first / m) m)
 
 -- it is a run of one
 pub one_run : (f : Layout) → IsLayout f → (x : Part) → IsPart f x → (k : ℕ) → k ≡ step f x → x.end ≡ x.first + 2 ^ k → IsRun f x 1
@@ -36,6 +46,17 @@ one_run f good x part k e whole =
       within = omega arith;
       run = subst (λ (n : ℕ). tiles f x ≡ run_blocks 1 (step f x) x.prot x.first x.out ++ tiles f (from x (x.first + n))) (sym one) (first_tile f good x part);
     }
+
+-- the block of one entry ends where that entry does
+pub at_most : {a b : ℕ} → a ≡ b → b ≤ a
+at_most e = omega (arith, e)
+
+pub block_end : (f : Layout) → IsLayout f → (x : Part) → IsPart f x → (level k : ℕ) → k ≡ step f x → k ≡ f.index * level → x.end ≡ x.first + 2 ^ k →
+    x.end ≤ (x.first / pages_of_entry f level + 1) * pages_of_entry f level
+block_end f good x part level k e one whole =
+    let aligned : x.first % 2 ^ (f.index * level) ≡ 0 = subst (λ (j : ℕ). x.first % 2 ^ j ≡ 0) (sym e ∙ one) (step_greatest f good x part).legal.first_aligned in
+    let ends : x.end ≡ x.first + 2 ^ (f.index * level) = subst (λ (j : ℕ). x.end ≡ x.first + 2 ^ j) one whole in
+    ends_there x.first x.end (2 ^ (f.index * level)) aligned ends
 
 gathered_here : (tells : Type 0) (v : View) → Gathered tells v v 0
 gathered_here tells v = record {
@@ -67,6 +88,9 @@ module _ (f : Layout) (good : IsLayout f) (tells : Type 0) (v b : View) (x : Par
 
   pub block_tiles : tiles f (part_of 1 block) ≡ blocks_of 1 block
   block_tiles = run_is_tiles f good tells b x level mays k e high 1 run
+
+  pub block_leaves : MayBeLeaves f level k x.out x.prot 1
+  block_leaves = run_leaves f good tells b x level mays k e high 1 run
 
   to : x.end ≡ x.first + 1 * 2 ^ k % 2 ^ 64
   to = whole ∙ ap (λ (j : ℕ). x.first + 2 ^ j) e ∙ (let one : x.first + 2 ^ step f x ≡ x.first + 1 * 2 ^ step f x = omega arith in one) ∙ sym (run_shifted f good x may.at.part 1 run k e)

@@ -10,9 +10,8 @@ use Rattle.pt_model.specs.Tables.{is_same}
 use Rattle.pt_model.proofs.Positions.{is_same_self, is_same_true}
 use Rattle.pt_view.specs.declared.view.Piece.{Piece}
 use Rattle.pt_view.specs.Lists.{one_if}
-use Rattle.pt_view.specs.Pieces.{IsOneOf, add_piece, all_pieces, first_of, number_of, pieces_of, table_of}
+use Rattle.pt_view.specs.Pieces.{IsOneOf, add_piece, add_pieces, all_pieces, first_of, number_of, pieces_of, table_of}
 use Rattle.pt_view.specs.Calls.{pieces_at}
-use Rattle.pt_map.specs.Filled.{add_pieces}
 
 -- a piece of a block
 abbrev pub piece_at : Block → ℕ → Piece

@@ -16,7 +16,7 @@ use Rattle.pt_view.specs.declared.view.Change.{Change}
 use Rattle.pt_view.specs.declared.view.Change.TheVariants.{Written}
 use Rattle.pt_view.specs.declared.view.Piece.{Piece}
 use Rattle.pt_view.specs.Lists.{IsAmong, IsIn, places}
-use Rattle.pt_view.specs.Pieces.{IsOneOf, all_pieces}
+use Rattle.pt_view.specs.Pieces.{IsOneOf, add_pieces, all_pieces}
 use Rattle.pt_view.specs.Views.{IsAtRest, SameBook, SameRange, book_of}
 use Rattle.pt_walk.specs.Walks.{AddsAbsences, IsFree, OwnsAll, OwnsOver, Walked}
 use Rattle.pt_walk.proofs.Loads.{adds_absences_on, same_book_on, same_range_on}
@@ -26,7 +26,6 @@ use Rattle.pt_map.specs.declared.refused.MapRefused.{MapRefused}
 use Rattle.pt_map.specs.declared.refused.MapRefused.TheVariants as refused
 use Rattle.pt_map.specs.Absent.{Counted, IsMissing, is_shown}
 use Rattle.pt_map.specs.Answers.{AddsToHistory, FindsAbsent, FindsEach, HasNoEmptyTable, IsMapped, IsRefused, IsShortOf, IsWanting, KeepsPurse, WantsFrames, book_after, lacking, refusal_of, request_for, unknown}
-use Rattle.pt_map.specs.Filled.{add_pieces}
 use Rattle.pt_map.specs.Parts.{IsPart, needs, needs_below, tiles}
 use Rattle.pt_map.specs.Requests.{IsRefusedBelow, LacksFrames, MappedBelow}
 use Rattle.pt_map.proofs.Belows.{shown_later}

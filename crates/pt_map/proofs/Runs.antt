@@ -1,5 +1,5 @@
 -- Runs of equal blocks that come first in a part's tiling.
-use Rattle.std.proofs.Common.{◌≡◌, ℕ, zero, suc, ◌+◌, ◌-◌, ◌*◌, ◌%◌, ◌^◌, ◌<◌, ◌≤◌, List, ◌++◌, inl, inr, refl, ap, sym, ◌∙◌, subst, arith}
+use Rattle.std.proofs.Common.{◌≡◌, ℕ, zero, suc, ◌+◌, ◌-◌, ◌*◌, ◌%◌, ◌^◌, ◌<◌, ◌≤◌, List, ◌∷◌, ◌++◌, inl, inr, refl, ap, sym, ◌∙◌, subst, arith}
 use Rattle.std.proofs.lemmas.Nat.{mul-le, pow_pos}
 use Rattle.pt_model.specs.declared.block.Block.{Block}
 use Rattle.pt_model.specs.declared.block.Prot.{Prot}
@@ -48,6 +48,42 @@ run_is f x k n more e some fits run =
       run = subst (λ (j : ℕ). tiles f x ≡ run_blocks n j x.prot x.first x.out ++ tiling f x.prot (x.first + n * 2 ^ j) (x.out + n * 2 ^ j) (x.end - x.first - n * 2 ^ j)) e run
           ∙ (λ i. run_blocks n (step f x) x.prot x.first x.out ++ tiling f x.prot (x.first + n * 2 ^ step f x) (out i) (left i));
     }
+
+moved : (f : Layout) (prot : Prot) (zs : List Block) (a d b e c g : ℕ) → a ≡ d → b ≡ e → c ≡ g → IsTiling f prot a b c zs → IsTiling f prot d e g zs
+moved f prot zs a d b e c g x y z t =
+    subst (λ (n : ℕ). IsTiling f prot n e g zs) x (subst (λ (n : ℕ). IsTiling f prot a n g zs) y (subst (λ (n : ℕ). IsTiling f prot a b n zs) z t))
+
+-- a tiling that begins with a run begins with fewer of its blocks, and the rest tiles the pages after them
+fewer : (f : Layout) (prot : Prot) (k m n first out left : ℕ) (ys : List Block) → m ≤ n → IsTiling f prot first out left (run_blocks n k prot first out ++ ys) →
+    (zs : List Block) × (run_blocks n k prot first out ++ ys ≡ run_blocks m k prot first out ++ zs) × IsTiling f prot (first + m * 2 ^ k) (out + m * 2 ^ k) (left - m * 2 ^ k) zs
+fewer f prot k zero n first out left ys few t =
+    let a : first ≡ first + 0 * 2 ^ k = omega arith in
+    let b : out ≡ out + 0 * 2 ^ k = omega arith in
+    let c : left ≡ left - 0 * 2 ^ k = omega arith in
+    (run_blocks n k prot first out ++ ys, refl, moved f prot (run_blocks n k prot first out ++ ys) _ _ _ _ _ _ a b c t)
+fewer f prot k (suc m) zero first out left ys few t = absurd (omega arith)
+fewer f prot k (suc m) (suc n) first out left ys few t =
+    let r = fewer f prot k m n (first + 2 ^ k) (out + 2 ^ k) (left - 2 ^ k) ys (omega arith) t.2 in
+    let a : first + 2 ^ k + m * 2 ^ k ≡ first + suc m * 2 ^ k = omega arith in
+    let b : out + 2 ^ k + m * 2 ^ k ≡ out + suc m * 2 ^ k = omega arith in
+    let c : left - 2 ^ k - m * 2 ^ k ≡ left - suc m * 2 ^ k = omega arith in
+    (r.0, ap (λ (bs : List Block). block_at first k out prot ∷ bs) r.1, moved f prot r.0 _ _ _ _ _ _ a b c r.2)
+
+-- fewer blocks of a run are one
+pub run_fewer : (f : Layout) (good : IsLayout f) (x : Part) → IsPart f x → (n m : ℕ) → IsRun f x n → 1 ≤ m → m ≤ n → IsRun f x m
+run_fewer f good x part n m is some few =
+    let k : ℕ = step f x in
+    let more = part.some in
+    let input = part.in_input in
+    let output = part.in_output in
+    let within = is.within in
+    let less = mul-le m (2 ^ step f x) n (2 ^ step f x) few (omega arith) in
+    let all : IsTiling f x.prot x.first x.out (x.end - x.first) (run_blocks n (step f x) x.prot x.first x.out ++ tiles f (from x (x.first + n * 2 ^ step f x))) =
+    subst (λ (bs : List Block). IsTiling f x.prot x.first x.out (x.end - x.first) bs) is.run (tiling_is f x.prot x.first x.out (x.end - x.first) good.has_pages (omega arith) part.in_output) in
+    let r = fewer f x.prot (step f x) m n x.first x.out (x.end - x.first) (tiles f (from x (x.first + n * 2 ^ step f x))) few all in
+    let rest = tiling_unique f x.prot (x.first + m * 2 ^ step f x) (x.out + m * 2 ^ step f x) (x.end - x.first - m * 2 ^ step f x) _ _ r.2
+    (tiling_is f x.prot (x.first + m * 2 ^ step f x) (x.out + m * 2 ^ step f x) (x.end - x.first - m * 2 ^ step f x) good.has_pages (omega arith) (omega arith)) in
+    run_is f x (step f x) m more refl some (omega arith) (is.run ∙ r.1 ∙ ap (λ (bs : List Block). run_blocks m (step f x) x.prot x.first x.out ++ bs) rest)
 
 module _ (f : Layout) (good : IsLayout f) (x : Part) (part : IsPart f x) (count : ℕ) (is : IsRun f x count) where
   -- the page after it

@@ -1,6 +1,8 @@
 -- The step of a part: the size of the first block of its tiling.
-use Rattle.std.proofs.Common.{◌≡◌, ℕ, zero, suc, ◌+◌, ◌-◌, ◌<◌, ◌≤◌, ◌^◌, arith}
+use Rattle.std.proofs.Common.{◌≡◌, ℕ, zero, suc, ◌+◌, ◌-◌, ◌%◌, ◌<◌, ◌≤◌, ◌^◌, inl, inr, arith}
 use Rattle.std.specs.Prelude.{IsTrue}
+use Rattle.std.proofs.lemmas.Bool.{cases_lt}
+use Rattle.std.proofs.lemmas.Nat.{pow_below}
 use Rattle.std.proofs.Math.Pow.{pow_mono}
 use Rattle.pt_model.specs.declared.block.Prot.TheVariants.{Read}
 use Rattle.pt_model.specs.Layout.{Layout, is_size, input_pages, output_pages}
@@ -51,3 +53,13 @@ module _ (f : Layout) (good : IsLayout f) (x : Part) (part : IsPart f x) where
   step_small =
       let input = part.in_input in let few = pages_few f good in let ends = step_ends in
       exponent_below (step f x) x.end (omega arith) (omega arith)
+
+  -- it is that of a legal block of all of its pages
+  pub block_step : (k : ℕ) → IsTrue (is_size f k) → x.first % 2 ^ k ≡ 0 → x.out % 2 ^ k ≡ 0 → x.end - x.first ≡ 2 ^ k → k ≡ step f x
+  block_step k size first out whole =
+      let some = part.some in let input = part.in_input in let output = part.in_output in
+      one_greatest f x.first x.out (x.end - x.first) k (step f x) (record {
+        legal = record { a_size = size; first_aligned = first; out_aligned = out; in_input = omega arith; in_output = omega arith };
+        fits = omega arith;
+        greatest = λ j legal fits. elim (cases_lt k j) [ inl more ↦ absurd (let wide = pow_below k j more in omega arith) | inr few ↦ few ];
+      }) step_greatest

@@ -18,12 +18,12 @@ use Rattle.pt_format.specs.Laws.{IsLayout}
 use Rattle.pt_view.specs.declared.view.View.{View}
 use Rattle.pt_view.specs.declared.view.Piece.{Piece}
 use Rattle.pt_view.specs.Lists.{IsAmong}
-use Rattle.pt_view.specs.Pieces.{IsOneOf, add_piece, all_pieces, first_of, pieces_of, words_of}
+use Rattle.pt_view.specs.Pieces.{IsOneOf, add_piece, add_pieces, all_pieces, first_of, pieces_of, words_of}
 use Rattle.pt_walk.specs.Walks.{IsFree}
 use Rattle.pt_walk.proofs.Books.{is_part, piece_at}
 use Rattle.pt_map.specs.declared.part.Part.{Part}
 use Rattle.pt_map.specs.Parts.{IsPart, needs, tiles}
-use Rattle.pt_map.specs.Filled.{IsBlockOf, add_pieces}
+use Rattle.pt_map.specs.Filled.{IsBlockOf}
 use Rattle.pt_map.specs.Answers.{HasNoEmptyTable, book_after, request_for}
 use Rattle.pt_map.proofs.Among.{among_member, member_among}
 use Rattle.pt_map.proofs.Needs.{AnyNeeds, needs_any, needs_of_block}

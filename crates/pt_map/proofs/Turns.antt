@@ -7,6 +7,7 @@ use Rattle.pt_model.specs.Layout.{Layout, level_of_size}
 use Rattle.pt_model.specs.Tables.{all_needed}
 use Rattle.pt_model.specs.Tiling.{block_at, tiling}
 use Rattle.pt_format.specs.Laws.{IsLayout}
+use Rattle.pt_format.specs.Words.{MayBeLeaves}
 use Rattle.pt_tile.specs.Runs.{run_blocks}
 use Rattle.pt_tile.proofs.Levels.{size_low}
 use Rattle.pt_view.specs.declared.view.View.{View}
@@ -16,7 +17,7 @@ use Rattle.pt_map.specs.declared.part.Part.{Part}
 use Rattle.pt_map.specs.Filled.{Filled, HasRoom, IsDeeper, MayFill, Spends, next_table}
 use Rattle.pt_map.specs.Parts.{IsEntryPart, IsFirstTo, IsPart, IsRun, blocks_of, from, needs, needs_below, part_of, step, tiles, under_entry}
 use Rattle.pt_map.proofs.Fills.{below_has, below_inside, below_rest, filled_on, has_below, may_first, needs_parts, room_into}
-use Rattle.pt_map.proofs.Entries.{none_lower}
+use Rattle.pt_map.proofs.Entries.{all_leaves, none_lower}
 use Rattle.pt_map.proofs.Firsts.{first_split}
 use Rattle.pt_map.proofs.Needs.{needs_append}
 use Rattle.pt_map.proofs.Runs.{run_shifted, run_tiles}
@@ -96,6 +97,10 @@ module _ (f : Layout) (good : IsLayout f) (tells : Type 0) (v : View) (x : Part)
       let some : 0 < f.index = omega (arith, good.index_is, good.granule_low) in
       let a = size_low f.index k level some (let low = may.at.low in omega arith) in
       let b = le-div level k f.index some (let h : level * f.index ≤ k = omega arith in h) in omega arith
+
+  -- each of its words may be written
+  pub run_leaves : MayBeLeaves f level k x.out x.prot count
+  run_leaves = all_leaves f good tells v block count level may_run run_is_tiles level_is
 
   -- the page after it, as the code makes it
   module _ (to : ℕ) (to_shifted : to ≡ x.first + count * 2 ^ k % 2 ^ 64) where

@@ -19,14 +19,14 @@ use Rattle.pt_view.specs.declared.view.Node.{Node}
 use Rattle.pt_view.specs.declared.view.Piece.{Piece}
 use Rattle.pt_view.specs.declared.view.Change.TheVariants.{Written}
 use Rattle.pt_view.specs.Lists.{IsAmong, SameFrames, SamePositions}
-use Rattle.pt_view.specs.Pieces.{IsOneOf, add_piece, all_pieces, word_of}
+use Rattle.pt_view.specs.Pieces.{IsOneOf, add_piece, add_pieces, all_pieces, word_of}
 use Rattle.pt_view.specs.Views.{SamePurse, SameRange}
 use Rattle.pt_view.specs.Calls.{IsWritten, MayPut, MayWrite, entry_end, entry_first, is_under, lowest, off_spine, pieces_at}
 use Rattle.pt_walk.specs.Walks.{AddsAbsences, entry_number}
 use Rattle.pt_walk.proofs.Loads.{adds_absences_on, same_range_on}
 use Rattle.pt_map.specs.declared.part.Part.{Part}
 use Rattle.pt_map.specs.Parts.{tiles}
-use Rattle.pt_map.specs.Filled.{Filled, IsBlockOf, MayFill, add_pieces}
+use Rattle.pt_map.specs.Filled.{Filled, IsBlockOf, MayFill}
 use Rattle.pt_map.proofs.Among.{among_filtered, among_member, among_passes, member_among}
 use Rattle.pt_map.proofs.Links.{keeps_absences}
 use Rattle.pt_map.proofs.Needs.{top_is}
@@ -70,7 +70,7 @@ put_none f tells v = record {
 }
 
 -- the positions of a path that aren't of the spine
-among_off : (levels : ℕ) (path : List Node) (p : Position) → IsAmong (off_spine levels path) p ↔ (IsAmong (positions path) p × (is_spine levels p ≡ false))
+pub among_off : (levels : ℕ) (path : List Node) (p : Position) → IsAmong (off_spine levels path) p ↔ (IsAmong (positions path) p × (is_spine levels p ≡ false))
 among_off levels path p = (
   (λ h. let r = among_filtered (λ q. not (is_spine levels q)) (positions path) p h in (r.0, false_of (is_spine levels p) r.1)),
   (λ h. among_passes (λ q. not (is_spine levels q)) (positions path) p h.0 (ap not h.1)),
@@ -156,7 +156,7 @@ module _ (f : Layout) (good : IsLayout f) (tells : Type 0) (v : View) (b : Block
   path_high : (p : Position) → IsAmong (positions v.path) p → level ≤ p.level
   path_high p h = (way_tables f b.first f.levels level v.path may.way may.depth p h).0
 
-  top_reaches : least_top f v.levels (end_of b) ≤ v.top
+  pub top_reaches : least_top f v.levels (end_of b) ≤ v.top
   top_reaches =
       let e : least_top f v.levels (end_of b) ≡ f.levels - 1 = ap (λ n. least_top f n (end_of b)) may.at.starts ∙ top_is f good (end_of b) may.at.part.in_input in
       let t = may.top in let l = may.at.starts in omega arith

@@ -8,6 +8,11 @@ use Rattle.pt_view.specs.declared.view.View.{View}
 use Rattle.pt_view.specs.declared.view.Absence.{Absence}
 use Rattle.pt_view.specs.declared.view.Absence.TheVariants.{Zero, Top}
 use Rattle.pt_view.specs.Lists.{IsAmong, places}
+use Rattle.pt_walk.specs.Walks.{IsFree, IsLowest}
+use Rattle.pt_map.specs.declared.part.Part.{Part}
+use Rattle.pt_map.specs.declared.survey.Found.{Found}
+use Rattle.pt_map.specs.declared.survey.Found.TheVariants.{Mapped, Absent}
+use Rattle.pt_map.specs.Parts.{needs_below}
 
 -- a load showed that no table is linked at a position: the entry for it, or for one over it, was zero, or the
 -- root's table was too low for it
@@ -34,3 +39,15 @@ pub record Counted (f : Layout) (tells alone : Type 0) (v w : View) (needed : Li
   pub others : count < cap → (p : Position) → IsAmong needed p → IsAmong absent p ⊎ IsAmong w.known p
   pub all : alone → count < cap → (p : Position) → IsAmong needed p → IsAmong absent p ⊎ IsAmong v.tables p
   pub told : tells → (facts : List Absence) × (w.absent ≡ v.absent ++ facts) × ((p : Position) → IsAmong absent p → IsTrue (is_shown f facts p))
+
+-- A look through the pages from `first` to before `end` found their lowest mapped page, or none of them is mapped and
+-- nothing is counted.
+abbrev pub IsLooked : Layout → View → (first end : ℕ) → Found → Type 0
+IsLooked f v first end (Mapped page) = IsLowest f v first end page
+IsLooked f v first end (Absent count) = IsFree f v first end × (count ≡ 0)
+
+-- A look through a part, from view v to view w, found its lowest mapped page, or none of its pages is mapped and so
+-- many of the tables that it needs below the level are absent.
+abbrev pub IsSurveyed : Layout → (tells alone : Type 0) → (v w : View) → Part → (level cap : ℕ) → Found → Type 0
+IsSurveyed f tells alone v w x level cap (Mapped page) = IsLowest f v x.first x.end page
+IsSurveyed f tells alone v w x level cap (Absent count) = IsFree f v x.first x.end × Counted f tells alone v w (needs_below f f.levels x level) cap count

@@ -1,24 +1,19 @@
 -- What the writing of a part does to a view.
-use Rattle.std.specs.Prelude.{◌≡◌, ◌⊎◌, ◌↔◌, ℕ, ◌+◌, ◌-◌, ◌<◌, ◌≤◌, List, [], ◌∷◌, ◌++◌, length, map, fold, false, None}
+use Rattle.std.specs.Prelude.{◌≡◌, ◌⊎◌, ◌↔◌, ℕ, ◌+◌, ◌-◌, ◌<◌, ◌≤◌, List, [], ◌∷◌, ◌++◌, length, map, false, None}
 use Rattle.pt_model.specs.declared.block.Block.{Block}
 use Rattle.pt_model.specs.declared.position.Position.{Position}
 use Rattle.pt_model.specs.Layout.{Layout, end_of, input_pages, level_of_size}
 use Rattle.pt_model.specs.Sets.{IsSorted}
 use Rattle.pt_model.specs.Tables.{is_spine, position_over, starting_top}
 use Rattle.pt_view.specs.declared.view.View.{View}
-use Rattle.pt_view.specs.declared.view.Piece.{Piece}
 use Rattle.pt_view.specs.declared.view.Change.TheVariants.{Written}
 use Rattle.pt_view.specs.Lists.{AddsPositions, IsAmong, SameFrames}
-use Rattle.pt_view.specs.Pieces.{add_piece, all_pieces}
+use Rattle.pt_view.specs.Pieces.{add_pieces, all_pieces}
 use Rattle.pt_view.specs.Views.{SameRange}
 use Rattle.pt_view.specs.Calls.{pieces_at, with_table}
 use Rattle.pt_walk.specs.Walks.{AddsAbsences, IsInSpan, IsOver, IsWayDown, OwnsOver, entry_number}
 use Rattle.pt_map.specs.declared.part.Part.{Part}
 use Rattle.pt_map.specs.Parts.{IsPartAt, tiles}
-
--- the pieces of blocks put among others
-abbrev pub add_pieces : Layout → List Piece → List Piece → List Piece
-add_pieces f old new = fold (add_piece f) old new
 
 -- each needed position is known or is one of the lacking ones, and the purse has a frame for each of these
 pub record HasRoom (v : View) (needed lacking : List Position) : Type 0 where

@@ -10,7 +10,7 @@ use Rattle.pt_view.specs.declared.view.View.{View}
 use Rattle.pt_view.specs.declared.view.Absence.{Absence}
 use Rattle.pt_view.specs.declared.view.Change.TheVariants.{Written}
 use Rattle.pt_view.specs.Lists.{IsAmong, IsIn, places}
-use Rattle.pt_view.specs.Pieces.{all_pieces}
+use Rattle.pt_view.specs.Pieces.{add_pieces, all_pieces}
 use Rattle.pt_view.specs.Views.{SameRange}
 use Rattle.pt_walk.specs.Walks.{IsClear, IsFree, IsLowest, IsWayDown, OwnsAll}
 use Rattle.pt_sweep.specs.Draws.{KeepsBook, SamePlace}
@@ -19,7 +19,6 @@ use Rattle.pt_map.specs.declared.refused.MapRefused.{MapRefused}
 use Rattle.pt_map.specs.declared.refused.MapRefused.TheVariants as refused
 use Rattle.pt_map.specs.Absent.{Counted, IsMissing, is_shown}
 use Rattle.pt_map.specs.Answers.{FindsEach, HasNoEmptyTable, Request, refusal_of, request_for}
-use Rattle.pt_map.specs.Filled.{add_pieces}
 use Rattle.pt_map.specs.Parts.{IsPart, IsPartAt, needs, needs_below, tiles}
 
 -- The numbers of a request.

@@ -1,8 +1,10 @@
 //! The writing of a request: its tables are linked where they are absent, and its blocks are stored.
 
-ghost use Rattle.std.specs.Prelude.{◌≡◌, ◌⊎◌, ℕ, ◌+◌, ◌<◌, ◌≤◌, List, [], ◌∷◌, length, false, IsTrue};
+ghost use Rattle.pt_view.specs.Views.{Stays};
+ghost use Rattle.std.specs.Prelude.{◌≡◌, ◌⊎◌, ℕ, ◌+◌, ◌*◌, ◌<◌, ◌≤◌, List, [], ◌∷◌, length, false, IsTrue};
 ghost use Rattle.pt_model.specs.declared.position.Position.{Position};
 ghost use Rattle.pt_model.specs.Layout.{level_of_size};
+ghost use Rattle.pt_format.specs.Words.{GoBy};
 ghost use Rattle.pt_tile.specs.Sizes.{HasAllSizes};
 ghost use Rattle.pt_view.specs.Lists.{IsAmong};
 ghost use Rattle.pt_model.specs.Sets.{IsSorted};
@@ -12,7 +14,7 @@ ghost use Rattle.pt_map.specs.Parts.{IsEntryPart, IsFirstTo, blocks_of, needs, n
 ghost use Rattle.pt_map.specs.Filled.{HasRoom, MayFill, MayGoInto, Filled, IsDeeper, Spends, CountsTables, LinksTables, next_table};
 
 use crate::part::Part;
-use pt_format::{Block, Format};
+use pt_format::{Block, Format, WordRun};
 use pt_num::align_down;
 use pt_view::{Holder, Seen, Won};
 use pt_walk::{entry_bits, entry_number};
@@ -24,9 +26,7 @@ pub(crate) fn fill<F: Format, H: Holder<F>>(holder: &mut H, level: u32, part: Pa
     requires fixed { F.layout.grows ≡ false }
     requires sizes { HasAllSizes F.layout sizes }
     requires room { (lacking : List Position) × HasRoom (H.view holder.old) (needs_below F.layout F.layout.levels part level) lacking }
-    ensures space { H.space holder.new ≡ H.space holder.old }
-    ensures aside { H.aside holder.new ≡ H.aside holder.old }
-    ensures alone { H.alone holder.old → H.alone holder.new }
+    ensures stays { Stays H.space H.aside H.alone holder.old holder.new }
     ensures linked { H.alone holder.old → H.linked holder.new + length (H.view holder.new).purse ≡ H.linked holder.old + length (H.view holder.old).purse }
     ensures filled { Filled F.layout H.tells (H.view holder.old) (H.view holder.new) (tiles F.layout part) (needs F.layout F.layout.levels part) }
     ensures spends { (lacking : List Position) → HasRoom (H.view holder.old) (needs_below F.layout F.layout.levels part level) lacking → (still : List Position) × Spends (H.view holder.old) (H.view holder.new) lacking still }
@@ -48,9 +48,7 @@ fn fill_first<F: Format, H: Holder<F>>(holder: &mut H, level: u32, part: Part, s
     requires fixed { F.layout.grows ≡ false }
     requires sizes { HasAllSizes F.layout sizes }
     requires room { (lacking : List Position) × HasRoom (H.view holder.old) (needs_below F.layout F.layout.levels part level) lacking }
-    ensures space { H.space holder.new ≡ H.space holder.old }
-    ensures aside { H.aside holder.new ≡ H.aside holder.old }
-    ensures alone { H.alone holder.old → H.alone holder.new }
+    ensures stays { Stays H.space H.aside H.alone holder.old holder.new }
     ensures linked { H.alone holder.old → H.linked holder.new + length (H.view holder.new).purse ≡ H.linked holder.old + length (H.view holder.old).purse }
     ensures to { IsFirstTo F.layout level part result }
     ensures filled { Filled F.layout H.tells (H.view holder.old) (H.view holder.new) (tiles F.layout (record part { end = result })) (needs F.layout F.layout.levels (record part { end = result })) }
@@ -67,8 +65,9 @@ fn fill_first<F: Format, H: Holder<F>>(holder: &mut H, level: u32, part: Part, s
             prot: part.prot,
         };
         let count = part.run::<F>(log2, sizes);
-        write_run::<F, H>(holder, level, block, count);
-        part.first + (count << log2)
+        let run = F::word_run(level, log2, part.out, part.prot, count);
+        write_run::<F, H>(holder, level, block, run);
+        part.first + (run.blocks << log2)
     } else {
         let inner = part.under_entry::<F>(level);
         fill_entry::<F, H>(holder, level, inner, sizes);
@@ -84,9 +83,7 @@ fn fill_entry<F: Format, H: Holder<F>>(holder: &mut H, level: u32, part: Part, s
     requires fixed { F.layout.grows ≡ false }
     requires sizes { HasAllSizes F.layout sizes }
     requires room { (lacking : List Position) × HasRoom (H.view holder.old) (needs_below F.layout F.layout.levels part level) lacking }
-    ensures space { H.space holder.new ≡ H.space holder.old }
-    ensures aside { H.aside holder.new ≡ H.aside holder.old }
-    ensures alone { H.alone holder.old → H.alone holder.new }
+    ensures stays { Stays H.space H.aside H.alone holder.old holder.new }
     ensures linked { H.alone holder.old → H.linked holder.new + length (H.view holder.new).purse ≡ H.linked holder.old + length (H.view holder.old).purse }
     ensures filled { Filled F.layout H.tells (H.view holder.old) (H.view holder.new) (tiles F.layout part) (needs F.layout F.layout.levels part) }
     ensures spends { (lacking : List Position) → HasRoom (H.view holder.old) (needs_below F.layout F.layout.levels part level) lacking → (still : List Position) × Spends (H.view holder.old) (H.view holder.new) lacking still }
@@ -102,9 +99,7 @@ fn fill_entry<F: Format, H: Holder<F>>(holder: &mut H, level: u32, part: Part, s
 fn go_into<F: Format, H: Holder<F>>(holder: &mut H, level: u32, page: u64)
     requires may { MayGoInto F.layout (H.view holder.old) page level }
     requires room { (lacking : List Position) × HasRoom (H.view holder.old) (next_table F.layout page level ∷ []) lacking }
-    ensures space { H.space holder.new ≡ H.space holder.old }
-    ensures aside { H.aside holder.new ≡ H.aside holder.old }
-    ensures alone { H.alone holder.old → H.alone holder.new }
+    ensures stays { Stays H.space H.aside H.alone holder.old holder.new }
     ensures linked { H.alone holder.old → H.linked holder.new + length (H.view holder.new).purse ≡ H.linked holder.old + length (H.view holder.old).purse }
     ensures deeper { IsDeeper F.layout H.tells (H.view holder.old) (H.view holder.new) page level }
     ensures spends { (lacking : List Position) → HasRoom (H.view holder.old) (next_table F.layout page level ∷ []) lacking → (still : List Position) × Spends (H.view holder.old) (H.view holder.new) lacking still }
@@ -124,9 +119,7 @@ fn link<F: Format, H: Holder<F>>(holder: &mut H, level: u32, number: u32, page: 
     requires may { MayGoInto F.layout (H.view holder.old) page level }
     requires number { number ≡ walks.entry_number F.layout level page }
     requires some { 0 < length (H.view holder.old).purse }
-    ensures space { H.space holder.new ≡ H.space holder.old }
-    ensures aside { H.aside holder.new ≡ H.aside holder.old }
-    ensures alone { H.alone holder.old → H.alone holder.new }
+    ensures stays { Stays H.space H.aside H.alone holder.old holder.new }
     ensures linked { H.alone holder.old → H.linked holder.new + length (H.view holder.new).purse ≡ H.linked holder.old + length (H.view holder.old).purse }
     ensures deeper { IsDeeper F.layout H.tells (H.view holder.old) (H.view holder.new) page level }
     ensures spends { (lacking : List Position) → IsAmong lacking (next_table F.layout page level) → (still : List Position) × Spends (H.view holder.old) (H.view holder.new) lacking still }
@@ -140,34 +133,46 @@ fn link<F: Format, H: Holder<F>>(holder: &mut H, level: u32, number: u32, page: 
     }
 }
 
+/// Stores the word of a block of one entry in the path's last table, of this level.
+pub(crate) fn write_entry<F: Format, H: Holder<F>>(holder: &mut H, level: u32, block: Block)
+    requires may { MayFill F.layout (H.view holder.old) (part_of 1 block) level }
+    requires run { tiles F.layout (part_of 1 block) ≡ blocks_of 1 block }
+    requires here { level_of_size F.layout block.log2 ≡ level }
+    requires one { block.log2 ≡ F.layout.index * level }
+    ensures stays { Stays H.space H.aside H.alone holder.old holder.new }
+    ensures linked { H.alone holder.old → H.linked holder.new ≡ H.linked holder.old }
+    ensures purse { (H.view holder.new).purse ≡ (H.view holder.old).purse }
+    ensures filled { Filled F.layout H.tells (H.view holder.old) (H.view holder.new) (blocks_of 1 block) (needs F.layout F.layout.levels (part_of 1 block)) }
+{
+    let word = F::leaf_word(level, block.log2, block.out, block.prot, 0);
+    holder.write(entry_number::<F>(level, block.first), word);
+}
+
 /// Stores the words of so many equal blocks that follow each other in the path's last table, of this level.
-/// `block` is the first.
+/// `block` is the first; the words go by the run's step.
+#[inline(never)]
 pub(crate) fn write_run<F: Format, H: Holder<F>>(
     holder: &mut H,
     level: u32,
     block: Block,
-    count: u64,
+    run: WordRun,
 )
-    requires may { MayFill F.layout (H.view holder.old) (part_of count block) level }
-    requires run { tiles F.layout (part_of count block) ≡ blocks_of count block }
+    requires may { MayFill F.layout (H.view holder.old) (part_of run.blocks block) level }
+    requires tiled { tiles F.layout (part_of run.blocks block) ≡ blocks_of run.blocks block }
     requires here { level_of_size F.layout block.log2 ≡ level }
-    ensures space { H.space holder.new ≡ H.space holder.old }
-    ensures aside { H.aside holder.new ≡ H.aside holder.old }
-    ensures alone { H.alone holder.old → H.alone holder.new }
+    requires words { GoBy F.layout level block.log2 block.out block.prot run.blocks run.step }
+    ensures stays { Stays H.space H.aside H.alone holder.old holder.new }
     ensures linked { H.alone holder.old → H.linked holder.new ≡ H.linked holder.old }
     ensures purse { (H.view holder.new).purse ≡ (H.view holder.old).purse }
-    ensures filled { Filled F.layout H.tells (H.view holder.old) (H.view holder.new) (blocks_of count block) (needs F.layout F.layout.levels (part_of count block)) }
+    ensures filled { Filled F.layout H.tells (H.view holder.old) (H.view holder.new) (blocks_of run.blocks block) (needs F.layout F.layout.levels (part_of run.blocks block)) }
 {
-    let number = entry_number::<F>(level, block.first);
     // each block has 2^bits entries
     let bits = block.log2 - F::INDEX * level;
-    let mask = (1 << bits) - 1;
-    for entry in 0..(count << bits) as u32 {
-        let out = block.out + (u64::from(entry >> bits) << block.log2);
-        let part = u64::from(entry & mask);
-        holder.write(
-            number + entry,
-            F::leaf_word(level, block.log2, out, block.prot, part),
-        );
-    }
+    let word = F::leaf_word(level, block.log2, block.out, block.prot, 0);
+    holder.write_run(
+        entry_number::<F>(level, block.first),
+        (run.blocks << bits) as u32,
+        word,
+        run.step,
+    );
 }

@@ -5,11 +5,11 @@
 //! that of the book machine, whatever other holders do between its steps. It takes no memory.
 #![tactic(auto)]
 
-mod absent;
 mod fill;
 mod part;
 mod refused;
 mod request;
+mod survey;
 
 pub use refused::MapRefused;
 pub use request::map;

@@ -1,6 +1,6 @@
 //! A part of a request, and the one step by which a request is gone through.
 
-ghost use Rattle.std.specs.Prelude.{◌≡◌, ℕ, ◌+◌, ◌-◌, ◌*◌, ◌/◌, ◌^◌, ◌<◌, ◌≤◌, min};
+ghost use Rattle.std.specs.Prelude.{◌≡◌, ℕ, ◌+◌, ◌-◌, ◌*◌, ◌/◌, ◌^◌, ◌<◌, ◌≤◌, IsTrue, min};
 ghost use Rattle.pt_model.specs.Layout.{input_pages, output_pages, pages_of_entry};
 ghost use Rattle.pt_model.specs.Tiling.{greatest_size};
 ghost use Rattle.pt_tile.specs.Sizes.{HasAllSizes};
@@ -8,7 +8,7 @@ ghost use Rattle.pt_map.specs.Parts as parts;
 ghost use Rattle.pt_map.specs.Parts.{IsPart, IsRun};
 
 use pt_format::{Format, Prot};
-use pt_num::greatest_step;
+use pt_num::{greatest_step, is_aligned};
 use pt_tile::run_length;
 use pt_walk::entry_end;
 
@@ -29,6 +29,26 @@ impl Part {
         ensures { result ≡ greatest_size F.layout self.first self.out (self.end - self.first) }
     {
         greatest_step(self.first, self.out, self.end - self.first, sizes)
+    }
+
+    /// Whether a part is one block of `2^log2` pages. `sizes` are the format's.
+    #[inline(always)]
+    pub(crate) fn is_block<F: Format>(self, log2: u32, sizes: u64) -> bool
+        requires part { IsPart F.layout self }
+        requires sizes { HasAllSizes F.layout sizes }
+        requires small { log2 < 64 }
+        ensures { IsTrue result → (log2 ≡ parts.step F.layout self) × (self.end ≡ self.first + 2 ^ log2) }
+    {
+        if self.end - self.first != 1 << log2 {
+            return false;
+        }
+        if !is_aligned(self.first, log2) {
+            return false;
+        }
+        if !is_aligned(self.out, log2) {
+            return false;
+        }
+        sizes >> log2 & 1 == 1
     }
 
     /// How many blocks of the first one's size, `2^log2` pages, come first in a part's tiling at least.

@@ -3,6 +3,7 @@ pub mod Paths
 pub mod ReadBack
 pub mod OwnerFacts
 pub mod Carried
+pub mod FixedRoot
 pub mod OwnerPath
 pub mod OwnerEntry
 pub mod OwnerEnter
@@ -10,3 +11,4 @@ pub mod Stored
 pub mod OwnerTags
 pub mod OwnerStores
 pub mod NewWords
+pub mod OwnerRuns

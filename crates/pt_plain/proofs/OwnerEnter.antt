@@ -41,7 +41,7 @@ entered_on : (f : Layout) (alone : Type 0) (v u w : View) (p : Position) (number
 entered_on f alone v u w p number (looked_table x frame path known told high none owned) knows same =
     looked_table w frame (same ∙ path) (knows (λ q. q ≡ child_at f p number) known) (λ no. absurd no) high none owned
 
-module _ (f : Layout) (good : IsLayout f) (differ : WordsDiffer f) (agree : StepsAgree f) (n l : ℕ) (words : List ℕ) (head : Option ℕ) (held : ℕ) (path : List ℕ) (level : ℕ) (prepared : Option ℕ)
+module _ {f : Layout} (good : IsLayout f) (differ : WordsDiffer f) (agree : StepsAgree f) {n l : ℕ} {words : List ℕ} {head : Option ℕ} {held : ℕ} {path : List ℕ} {level : ℕ} {prepared : Option ℕ}
     (own : IsOwner f n l words head held path level prepared) (number : ℕ) (may : MeetsEntry f (owner_view f n l words head held path level prepared) number) where
   abbrev v : View
   v = owner_view f n l words head held path level prepared

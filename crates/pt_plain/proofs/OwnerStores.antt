@@ -46,7 +46,7 @@ busy_stored : (f : Layout) (n : ℕ) (words : List ℕ) (frame number word : ℕ
 busy_stored f n words frame number word = busy_same words (slice_set words (entry_place f n frame number) word) n
     (λ g lt some z. some (tag_after_entry f n words frame number word g lt ∙ z)) (λ g lt some z. some (sym (tag_after_entry f n words frame number word g lt) ∙ z))
 
-module _ (f : Layout) (good : IsLayout f) (differ : WordsDiffer f) (agree : StepsAgree f) (n l : ℕ) (words : List ℕ) (head : Option ℕ) (held : ℕ) (path : List ℕ) (level : ℕ) (prepared : Option ℕ)
+module _ {f : Layout} (good : IsLayout f) (differ : WordsDiffer f) (agree : StepsAgree f) {n l : ℕ} {words : List ℕ} {head : Option ℕ} {held : ℕ} {path : List ℕ} {level : ℕ} {prepared : Option ℕ}
     (own : IsOwner f n l words head held path level prepared) (number : ℕ) where
   abbrev v : View
   v = owner_view f n l words head held path level prepared
@@ -339,10 +339,10 @@ module _ (f : Layout) (good : IsLayout f) (differ : WordsDiffer f) (agree : Step
     pub writes_owner : IsOwner f n l words' head held path level prepared
     writes_owner = owner f good differ agree n l words' u wrote.0 whole head held path level prepared matches_u
 
-    same_tables : w.tables ≡ v.tables
+    pub same_tables : w.tables ≡ v.tables
     same_tables = (agrees f good differ agree n l words' u wrote.0 whole head held path level prepared matches_u).book.tables ∙ wrote.1.same_tables whole
 
-    same_top : w.top ≡ v.top
+    pub same_top : w.top ≡ v.top
     same_top = (agrees f good differ agree n l words' u wrote.0 whole head held path level prepared matches_u).book.top ∙ wrote.1.same_top whole
 
     pub writes : IsWritten f ⊥ number (word_of f x) v w

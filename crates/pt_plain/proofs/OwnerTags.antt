@@ -51,7 +51,7 @@ busy_written f n words frame x old new = busy_same words (slice_set words (1 + f
     (λ g lt some. dite (ℕ_discrete g frame) (λ e. subst (λ (z : ℕ). tag words z ≢ 0) (sym e) old) (λ ne z. some (tag_else words frame x g ne ∙ z)))
     (λ g lt some. dite (ℕ_discrete g frame) (λ e. subst (λ (z : ℕ). tag (slice_set words (1 + frame) x) z ≢ 0) (sym e) new) (λ ne z. some (sym (tag_else words frame x g ne) ∙ z)))
 
-module _ (f : Layout) (good : IsLayout f) (differ : WordsDiffer f) (agree : StepsAgree f) (n l : ℕ) (words : List ℕ) (head : Option ℕ) (held : ℕ) (path : List ℕ) (level : ℕ) (prepared : Option ℕ)
+module _ {f : Layout} (good : IsLayout f) (differ : WordsDiffer f) (agree : StepsAgree f) {n l : ℕ} {words : List ℕ} {head : Option ℕ} {held : ℕ} {path : List ℕ} {level : ℕ} {prepared : Option ℕ}
     (own : IsOwner f n l words head held path level prepared) where
   abbrev v : View
   v = owner_view f n l words head held path level prepared

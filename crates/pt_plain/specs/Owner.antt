@@ -1,5 +1,5 @@
 -- What the words of one owner, and the few fields beside them, say: the one view of the whole space.
-use Rattle.std.specs.Prelude.{◌≡◌, ℕ, zero, suc, ◌+◌, ◌-◌, ◌/◌, ◌≤◌, ◌==◌, List, [], ◌∷◌, ◌++◌, length, map, Option, Some, None, slice_index, if◌then◌else◌}
+use Rattle.std.specs.Prelude.{◌≡◌, ℕ, zero, suc, ◌+◌, ◌-◌, ◌*◌, ◌/◌, ◌≤◌, ◌==◌, List, [], ◌∷◌, ◌++◌, length, map, Option, Some, None, slice_index, slice_set, if◌then◌else◌}
 use Rattle.pt_model.specs.declared.position.Position.{Position}
 use Rattle.pt_model.specs.declared.block.Block.{Block}
 use Rattle.pt_model.specs.Layout.{Layout, input_pages}
@@ -18,6 +18,11 @@ use Rattle.pt_rule.specs.WholeView.{tables_in, pieces_in}
 pub record Owned : Type 0 where
   pub words : List ℕ
   pub view : View
+
+-- words of which `count` from a place on are set: the first to `word`, each next one to `step` more
+abbrev pub set_run : (words : List ℕ) → (place count word step : ℕ) → List ℕ
+set_run words place zero word step = words
+set_run words place (suc count) word step = slice_set (set_run words place count word step) (place + count) (word + count * step)
 
 -- the frame that a held frame's tag names as the next one of its purse
 abbrev pub next_named : (word : ℕ) → Option ℕ

@@ -2,7 +2,8 @@
 
 use crate::plain::Plain;
 use crate::words::{
-    entry, frame_address, frame_named, held_word, next_in, placed_word, set_entry, set_tag, tag_of,
+    entry, frame_address, frame_named, held_word, next_in, placed_word, root_level, set_entry,
+    set_run, set_tag, tag_of,
 };
 use pt_format::Format;
 use pt_num::Span;
@@ -28,7 +29,7 @@ impl<F: Format> Holder<F> for Plain<F> {
 
     fn root(&mut self) -> u32 {
         let root = self.words[0];
-        let level = (root % 8) as u32;
+        let level = root_level::<F>(root);
         self.path[level as usize] = (root / 8) as u32;
         self.level = level;
         level
@@ -97,6 +98,19 @@ impl<F: Format> Holder<F> for Plain<F> {
     fn write(&mut self, number: u32, word: u64) {
         let frame = self.path[self.level as usize];
         set_entry::<F>(&mut self.words, self.frames, frame, number, word);
+    }
+
+    fn write_run(&mut self, first: u32, count: u32, word: u64, step: u64) {
+        let frame = self.path[self.level as usize];
+        set_run::<F>(
+            &mut self.words,
+            self.frames,
+            frame,
+            first,
+            count,
+            word,
+            step,
+        );
     }
 
     fn take(&mut self, frame: u32) -> bool {

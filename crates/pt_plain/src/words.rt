@@ -1,10 +1,11 @@
 //! The words of a space: where they stand, and how a tag, a pointer and an entry are read and written.
 
-ghost use Rattle.std.specs.Prelude.{◌≡◌, ℕ, ◌+◌, ◌*◌, ◌^◌, ◌<◌, ◌≤◌, length, Option, Some, None, slice_set};
+ghost use Rattle.std.specs.Prelude.{◌≡◌, ℕ, ◌+◌, ◌*◌, ◌%◌, ◌^◌, false, ◌<◌, ◌≤◌, length, Option, Some, None, slice_set};
 ghost use Rattle.pt_model.specs.Words as words_are;
 ghost use Rattle.pt_model.specs.Words.{frame_limit, tag, entry_of};
 ghost use Rattle.pt_format.specs.Words.{IsTableAddress};
 ghost use Rattle.pt_rule.specs.Tags as tags;
+ghost use Rattle.pt_plain.specs.Owner as owner;
 
 use pt_format::Format;
 
@@ -44,6 +45,18 @@ pub(crate) fn frame_named<F: Format>(address: u64) -> u32
     ensures { result ≡ words_are.frame_named F.layout address }
 {
     ((address - FIRST_FRAME) >> F::GRANULE) as u32
+}
+
+/// The level that the root's word names. In a format that doesn't grow it is known without it.
+pub(crate) fn root_level<F: Format>(root: u64) -> u32
+    requires { F.layout.grows ≡ false → root % 8 + 1 ≡ F.layout.levels }
+    ensures { result ≡ root % 8 }
+{
+    if F::GROWS {
+        (root % 8) as u32
+    } else {
+        F::LEVELS - 1
+    }
 }
 
 /// The tag of a frame.
@@ -86,6 +99,32 @@ pub(crate) fn set_entry<F: Format>(
     ensures { words.new ≡ slice_set words.old (words_are.entry_place F.layout frames frame number) word }
 {
     words[entry_place::<F>(frames, frame, number)] = word;
+}
+
+/// Sets `count` entries of a frame from number `first` on: the first to `word`, each next one to `step` more.
+pub(crate) fn set_run<F: Format>(
+    words: &mut [u64],
+    frames: u32,
+    frame: u32,
+    first: u32,
+    count: u32,
+    word: u64,
+    step: u64,
+)
+    requires few { frames ≤ frame_limit F.layout }
+    requires a_frame { frame < frames }
+    requires some { 0 < count }
+    requires inside { first + count ≤ 2 ^ F.layout.index }
+    requires long { length words.old ≡ words_are.word_count F.layout frames }
+    requires within { (i : ℕ) → i < count → word + i * step < 2 ^ 64 }
+    ensures { words.new ≡ owner.set_run words.old (words_are.entry_place F.layout frames frame first) count word step }
+{
+    let place = entry_place::<F>(frames, frame, first);
+    let mut next = word;
+    for i in 0..count {
+        words[place + i as usize] = next;
+        next = next.wrapping_add(step);
+    }
 }
 
 /// The tag of a frame that is placed as the table at a position.

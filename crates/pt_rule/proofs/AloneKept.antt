@@ -67,7 +67,7 @@ module _ (f : Layout) (n l : ℕ) (words : List ℕ) (views : List View) (id : �
       none_held = λ h le. alone_total (holds h) refl ∙ r.frames.none_held h le;
       none_prepared = λ h le. alone_total (prepares h) refl ∙ r.frames.none_prepared h le;
       at = only (λ u. IsPreparedAt words u.prepared) v (r.frames.at id v at);
-      bridges = only (λ u. IsBridged f n words (v ∷ []) u.prepared) v (bridged_to f n words words views (v ∷ []) alone_links v.prepared (r.frames.bridges id v at));
+      bridges = only (λ u. IsBridged f n words (v ∷ []) u.levels u.prepared) v (bridged_to f n words words views (v ∷ []) alone_links v.levels v.prepared (r.frames.bridges id v at));
       cleared = λ h i lt unlinked small. r.frames.cleared h i lt (λ a. unlinked (alone_links.to h a)) small ∙ sym (alone_total (has_bridge f h i) refl);
     };
     positions = positions_same f n l words words views (v ∷ []) alone_links alone_tree r.positions;

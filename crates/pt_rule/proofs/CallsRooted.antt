@@ -56,7 +56,7 @@ spine_back levels p s =
     (leb-true (starting_top levels) p.level b.0, same_position p (spine_position p.level) refl (eqb-true p.base 0 b.1))
 
 -- the spine's positions from the starting top to a level join the list
-spine_adds : (levels level : ℕ) (old : List Position) →
+pub spine_adds : (levels level : ℕ) (old : List Position) →
     AddsPositions old (map spine_position (levels_between (starting_top levels) level) ++ old) (λ p. IsTrue (is_spine levels p) × (p.level ≤ level))
 spine_adds levels level old p = (
   λ h. ⊎_elim

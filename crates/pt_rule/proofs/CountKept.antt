@@ -27,7 +27,7 @@ use Rattle.pt_rule.specs.Lawful.{Lawful, InOrder, IsOwnTable}
 use Rattle.pt_rule.proofs.TotalsKept.{all_append, all_among, among_all, among_here, among_more, bit_false, bit_le, bit_true, places_append, places_else, same_cases, same_self, times_append}
 use Rattle.pt_rule.proofs.Few.{distinct_few, length_sum, sum_below}
 use Rattle.pt_rule.proofs.PositionFacts.{same_position}
-use Rattle.pt_rule.proofs.TablesAdded.{before_lower, before_self}
+use Rattle.pt_model.proofs.Positions.{before_lower, before_self}
 use Rattle.pt_rule.proofs.PathTables.{all_levels}
 use Rattle.pt_rule.proofs.TreeFacts.{level_low, one_frame, spine_there, table_there, whole_alone, whole_tree}
 use Rattle.pt_rule.proofs.RootKept.{spine_is}

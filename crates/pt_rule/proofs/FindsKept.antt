@@ -119,7 +119,7 @@ module _ (f : Layout) (n l : ℕ) where
       let range = met.range in
       record {
         spans = spans_set f views id v w at range r.spans;
-        frames = frames_same f n words words views id v w at links (λ h lt. refl) met.purse met.prepared (λ h i lt un small. refl) r.frames;
+        frames = frames_same f n words words views id v w at links (λ h lt. refl) range.levels met.purse met.prepared (λ h i lt un small. refl) r.frames;
         positions = positions_same f n l words words views views' links tree r.positions;
         root = root_same n l words words views id v w at links refl range.count (omega arith) (omega arith) r.root;
         parents = parents_same f n l words words views views' links tree (λ g h p a ne b. refl) r.parents;

@@ -58,7 +58,7 @@ module _ (f : Layout) (n l : ℕ) where
               unprepared = λ j u ne there. by.unprepared j u there;
               at = prepared_moved words words' v.prepared (λ y e. tag_else words g 0 y.frame
                   (λ same. let none = by.unprepared id v at in let one : prepares g v ≡ 1 = subst (λ (z : ℕ). prepares z v ≡ 1) same (prepares_here views id v y e) in omega arith)) (r.frames.at id v at);
-              bridged = bridged_to f n words words' views views' links v.prepared (r.frames.bridges id v at);
+              bridged = bridged_to f n words words' views views' links v.levels v.prepared (r.frames.bridges id v at);
               bridge = λ h i. refl;
             })
             (each_set (λ u. Chained words u.end u.purse) (λ u. Chained words' u.end u.purse) views id v w at

@@ -230,13 +230,13 @@ module _ (f : Layout) (n l : ℕ) (good : IsLayout f) (d : WordsDiffer f) (words
   g_other : g ≢ frame
   g_other e = g_unlinked (subst (IsLinked n words views) (sym e) s.linked.is_linked)
 
-  bridge_kept : (q : Position) (o : Option ℕ) → HasBridge f n words views q o → HasBridge f n words' views' q o
-  bridge_kept q None b = tt
-  bridge_kept q (Some h) b = (b.0, b.1, to_linked_at h (spine_position b.0) b.2)
+  bridge_kept : (levels : ℕ) (q : Position) (o : Option ℕ) → HasBridge f n words views levels q o → HasBridge f n words' views' levels q o
+  bridge_kept levels q None b = tt
+  bridge_kept levels q (Some h) b = (b.0, b.1, to_linked_at h (spine_position b.0) b.2, b.3)
 
-  bridged_kept : (o : Option Prepared) → IsBridged f n words views o → IsBridged f n words' views' o
-  bridged_kept None b = tt
-  bridged_kept (Some x) b = bridge_kept x.position x.bridge b
+  bridged_kept : (levels : ℕ) (o : Option Prepared) → IsBridged f n words views levels o → IsBridged f n words' views' levels o
+  bridged_kept levels None b = tt
+  bridged_kept levels (Some x) b = bridge_kept levels x.position x.bridge b
 
   frames_won : FramesPart f n words' views'
   frames_won = record {
@@ -248,8 +248,8 @@ module _ (f : Layout) (n l : ℕ) (good : IsLayout f) (d : WordsDiffer f) (words
     none_prepared = λ h le. let t = prepares_after h in let none = r.frames.none_prepared h le in omega arith;
     at = each_set (λ u. IsPreparedAt words u.prepared) (λ u. IsPreparedAt words' u.prepared) views id v w at tt
         (λ j u ne here b. prepared_moved words words' u.prepared (λ x e. tags_kept x.frame (prepared_within f n words views j u x r.frames here e)) b) r.frames.at;
-    bridges = each_set (λ u. IsBridged f n words views u.prepared) (λ u. IsBridged f n words' views' u.prepared) views id v w at tt
-        (λ j u ne here b. bridged_kept u.prepared b) r.frames.bridges;
+    bridges = each_set (λ u. IsBridged f n words views u.levels u.prepared) (λ u. IsBridged f n words' views' u.levels u.prepared) views id v w at tt
+        (λ j u ne here b. bridged_kept u.levels u.prepared b) r.frames.bridges;
     cleared = λ h i lt unlinked small.
         entry_kept h i small (λ e _. unlinked (subst (IsLinked n words' views') (sym e) (to_linked frame s.linked.is_linked)))
         ∙ r.frames.cleared h i lt (λ b. unlinked (to_linked h b)) small ∙ sym (bridges_kept h i);

@@ -55,7 +55,7 @@ module _ (f : Layout) (n l : ℕ) where
       let most = r.root.greatest id v at in
       record {
         spans = spans_set f views id v w at met.range r.spans;
-        frames = frames_same f n words words views id v w at links (λ h lt. refl) met.purse met.prepared (λ h i lt un small. refl) r.frames;
+        frames = frames_same f n words words views id v w at links (λ h lt. refl) met.range.levels met.purse met.prepared (λ h i lt un small. refl) r.frames;
         positions = positions_same f n l words words views views' links tree r.positions;
         root = root_same n l words words views id v w at links refl met.range.count (omega arith) (omega arith) r.root;
         parents = parents_same f n l words words views views' links tree (λ g h p a ne b. refl) r.parents;

@@ -149,7 +149,7 @@ module _ (f : Layout) (good : IsLayout f) (n l hold : ℕ) (words : List ℕ) (l
       none_held = λ g le. let a = times_high g 1 hold (omega arith) in omega arith;
       none_prepared = λ g le. refl;
       at = only (λ u. IsPreparedAt words u.prepared) v tt;
-      bridges = only (λ u. IsBridged f n words views u.prepared) v tt;
+      bridges = only (λ u. IsBridged f n words views u.levels u.prepared) v tt;
       cleared = λ g i lt unlinked small. new.cleared g i lt small;
     };
     positions = record {

@@ -104,22 +104,22 @@ pub purse_within : (f : Layout) (n : ℕ) (words : List ℕ) (views : List View)
 purse_within f n words views j u h part at a =
     dite (dec_le n h) (λ le. absurd (let some : 0 < times h u.purse = a in let most : times h u.purse ≤ total (holds h) views = total_at (holds h) views j u at in let none = part.none_held h le in omega arith)) (λ gt. omega arith)
 
-bridge_to : (f : Layout) (n : ℕ) (words words' : List ℕ) (views views' : List View) → SameLinks n words words' views views' → (p : Position) (o : Option ℕ) →
-    HasBridge f n words views p o → HasBridge f n words' views' p o
-bridge_to f n words words' views views' links p None h = tt
-bridge_to f n words words' views views' links p (Some b) h = (h.0, h.1, linked_to n words words' views views' links b (spine_position h.0) h.2)
+pub bridge_to : (f : Layout) (n : ℕ) (words words' : List ℕ) (views views' : List View) → SameLinks n words words' views views' → (levels : ℕ) (p : Position) (o : Option ℕ) →
+    HasBridge f n words views levels p o → HasBridge f n words' views' levels p o
+bridge_to f n words words' views views' links levels p None h = tt
+bridge_to f n words words' views views' links levels p (Some b) h = (h.0, h.1, linked_to n words words' views views' links b (spine_position h.0) h.2, h.3)
 
-pub bridged_to : (f : Layout) (n : ℕ) (words words' : List ℕ) (views views' : List View) → SameLinks n words words' views views' → (o : Option Prepared) →
-    IsBridged f n words views o → IsBridged f n words' views' o
-bridged_to f n words words' views views' links None h = tt
-bridged_to f n words words' views views' links (Some x) h = bridge_to f n words words' views views' links x.position x.bridge h
+pub bridged_to : (f : Layout) (n : ℕ) (words words' : List ℕ) (views views' : List View) → SameLinks n words words' views views' → (levels : ℕ) (o : Option Prepared) →
+    IsBridged f n words views levels o → IsBridged f n words' views' levels o
+bridged_to f n words words' views views' links levels None h = tt
+bridged_to f n words words' views views' links levels (Some x) h = bridge_to f n words words' views views' links levels x.position x.bridge h
 
 -- where no tag, purse or prepared frame changes, nor an entry of a frame that isn't linked
 pub frames_same : (f : Layout) (n : ℕ) (words words' : List ℕ) (views : List View) (id : ℕ) (v w : View) → get_elem? views id ≡ some v →
-    SameLinks n words words' views (set views id w) → ((h : ℕ) → h < n → tag words' h ≡ tag words h) → w.purse ≡ v.purse → w.prepared ≡ v.prepared →
+    SameLinks n words words' views (set views id w) → ((h : ℕ) → h < n → tag words' h ≡ tag words h) → w.levels ≡ v.levels → w.purse ≡ v.purse → w.prepared ≡ v.prepared →
     ((h i : ℕ) → h < n → ¬ IsLinked n words views h → i < 2 ^ f.index → entry_of f n words' h i ≡ entry_of f n words h i) →
     FramesPart f n words views → FramesPart f n words' (set views id w)
-frames_same f n words words' views id v w at links tags purse prepared entries part =
+frames_same f n words words' views id v w at links tags levels purse prepared entries part =
     let views' : List View = set views id w in
     let held_same = λ (h : ℕ). total_same (holds h) views id v w at (ap (times h) purse) in
     let prepared_same = λ (h : ℕ). total_same (prepares h) views id v w at (ap (λ (o : Option Prepared). one_if (is_prepared h o)) prepared) in
@@ -134,9 +134,10 @@ frames_same f n words words' views id v w at links tags purse prepared entries p
       at = each_set (λ u. IsPreparedAt words u.prepared) (λ u. IsPreparedAt words' u.prepared) views id v w at
           (subst (IsPreparedAt words') (sym prepared) (prepared_moved words words' v.prepared (λ x e. tags x.frame (prepared_within f n words views id v x part at e)) (part.at id v at)))
           (λ j u ne here h. prepared_moved words words' u.prepared (λ x e. tags x.frame (prepared_within f n words views j u x part here e)) h) part.at;
-      bridges = each_set (λ u. IsBridged f n words views u.prepared) (λ u. IsBridged f n words' views' u.prepared) views id v w at
-          (subst (IsBridged f n words' views') (sym prepared) (bridged_to f n words words' views views' links v.prepared (part.bridges id v at)))
-          (λ j u ne here h. bridged_to f n words words' views views' links u.prepared h) part.bridges;
+      bridges = each_set (λ u. IsBridged f n words views u.levels u.prepared) (λ u. IsBridged f n words' views' u.levels u.prepared) views id v w at
+          (subst (λ (s : ℕ × Option Prepared). IsBridged f n words' views' s.0 s.1) (λ i. (sym levels i, sym prepared i))
+          (bridged_to f n words words' views views' links v.levels v.prepared (part.bridges id v at)))
+          (λ j u ne here h. bridged_to f n words words' views views' links u.levels u.prepared h) part.bridges;
       cleared = λ h i lt unlinked small. entries h i lt (λ a. unlinked (links.to h a)) small ∙ part.cleared h i lt (λ a. unlinked (links.to h a)) small ∙ sym (bridge_same h i);
     }
 
@@ -149,7 +150,7 @@ pub record TagOwed (f : Layout) (n g x : ℕ) (words : List ℕ) (views : List V
   pub prepared_else : (h : ℕ) → h ≢ g → prepares h w ≡ prepares h v
   pub unprepared : (j : ℕ) (u : View) → j ≢ id → get_elem? views j ≡ some u → prepares g u ≡ 0
   pub at : IsPreparedAt (slice_set words (1 + g) x) w.prepared
-  pub bridged : IsBridged f n (slice_set words (1 + g) x) (set views id w) w.prepared
+  pub bridged : IsBridged f n (slice_set words (1 + g) x) (set views id w) w.levels w.prepared
   pub bridge : (h i : ℕ) → has_bridge f h i w ≡ has_bridge f h i v
 
 pub frames_tag : (f : Layout) (n g x : ℕ) (words : List ℕ) (views : List View) (id : ℕ) (v w : View) → length words ≡ word_count f n → g < n →
@@ -179,8 +180,8 @@ frames_tag f n g x words views id v w whole within at links before owed part =
       at = each_set (λ u. IsPreparedAt words u.prepared) (λ u. IsPreparedAt words' u.prepared) views id v w at owed.at
           (λ j u ne there h. prepared_moved words words' u.prepared
           (λ y e. others y.frame (λ same. let none = owed.unprepared j u ne there in let one : prepares g u ≡ 1 = subst (λ (z : ℕ). prepares z u ≡ 1) same (prepares_here views j u y e) in omega arith)) h) part.at;
-      bridges = each_set (λ u. IsBridged f n words views u.prepared) (λ u. IsBridged f n words' views' u.prepared) views id v w at owed.bridged
-          (λ j u ne there h. bridged_to f n words words' views views' links u.prepared h) part.bridges;
+      bridges = each_set (λ u. IsBridged f n words views u.levels u.prepared) (λ u. IsBridged f n words' views' u.levels u.prepared) views id v w at owed.bridged
+          (λ j u ne there h. bridged_to f n words words' views views' links u.levels u.prepared h) part.bridges;
       cleared = λ h i lt unlinked small. entry_after_tag f n words g x h i within ∙ part.cleared h i lt (λ a. unlinked (links.to h a)) small ∙ sym (total_same (has_bridge f h i) views id v w at (owed.bridge h i));
     }
 

@@ -69,7 +69,7 @@ lies_over f page node x (y ∷ ys) aligned down low over =
 within_one : (m d j i : ℕ) → d < 2 ^ j → (m * 2 ^ j + d) / 2 ^ (j + i) ≡ m / 2 ^ i
 within_one m d j i short = sym (shr-shr (m * 2 ^ j + d) j i) ∙ ap (λ x. x / 2 ^ i) (div-mul-add m (2 ^ j) d short)
 
-next_multiple : (m t s : ℕ) → m * s < t * s → m * s + s ≤ t * s
+pub next_multiple : (m t s : ℕ) → m * s < t * s → m * s + s ≤ t * s
 next_multiple m t s h = dite (dec_le t m)
     (λ le. let g = mul-le t s m s le (omega arith) in absurd (omega arith))
     (λ gt. let g = mul-le (m + 1) s t s (omega arith) (omega arith) in omega arith)

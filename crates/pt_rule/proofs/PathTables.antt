@@ -8,7 +8,8 @@ use Rattle.pt_model.specs.Tables.{add_position, add_positions, is_before, levels
 use Rattle.pt_view.specs.Lists.{IsAmong}
 use Rattle.pt_rule.specs.Lawful.{InOrder}
 use Rattle.pt_rule.proofs.TotalsKept.{among_here, among_more, among_cases, among_all}
-use Rattle.pt_rule.proofs.TablesAdded.{add_after, add_there, added_kept, added_new, added_cases, order_added}
+use Rattle.pt_model.proofs.Positions.{add_after, add_there}
+use Rattle.pt_rule.proofs.TablesAdded.{added_kept, added_new, added_cases, order_added}
 
 -- Positions added to a list.
 

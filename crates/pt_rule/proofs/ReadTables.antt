@@ -20,7 +20,8 @@ use Rattle.pt_rule.specs.Linked.{IsLinked, IsLinkedAt, is_in_tree}
 use Rattle.pt_rule.specs.Lawful.{Lawful, InOrder, IsOwnTable}
 use Rattle.pt_rule.specs.WholeView.{is_frame, is_linked_in, is_table_in, prepared_frame, tables_in}
 use Rattle.pt_rule.proofs.TotalsKept.{among_all, among_cases, among_here, among_more, bit_false, false_bit}
-use Rattle.pt_rule.proofs.TablesAdded.{added_cases, added_kept, added_new, before_self, before_trans, order_added}
+use Rattle.pt_model.proofs.Positions.{before_self, before_trans}
+use Rattle.pt_rule.proofs.TablesAdded.{added_cases, added_kept, added_new, order_added}
 use Rattle.pt_rule.proofs.Ordered.{either_has, same_list}
 use Rattle.pt_rule.proofs.TreeFacts.{table_there}
 

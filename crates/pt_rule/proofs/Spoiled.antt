@@ -1,6 +1,6 @@
 -- For each part of the rule small states that are spoiled in that part: the state with a mapped page, a new
 -- space, or the state of two holders, with some words or fields changed.
-use Rattle.std.proofs.Common.{◌≡◌, ℕ, zero, suc, true, false, ◌<◌, ◌≤◌, List, [], ◌∷◌, sym, refl, ap, ◌∙◌, ⊎_elim, arith, Option, Some, None}
+use Rattle.std.proofs.Common.{◌≡◌, ℕ, zero, suc, true, false, ◌+◌, ◌<◌, ◌≤◌, List, [], ◌∷◌, sym, refl, ap, ◌∙◌, ⊎_elim, arith, Option, Some, None}
 use mathlib.Core.Option.{some, some-injective, some-ne-none}
 use lib.ListN.{get_elem?}
 use Rattle.pt_model.specs.declared.position.Position.{Position}
@@ -232,3 +232,41 @@ not_known part = cc ((part 0 (record mapped_view { known = at 0 8 ∷ [] }) refl
 
 pub far_known : ¬ KnownPart small 2 mapped_words (far_view ∷ [])
 far_known part = ⊎_elim (λ (h : false ≡ true). cc h) (λ (h : false ≡ true). cc h) ((part 0 far_view refl (at 0 4) (omega arith)).1)
+
+-- Between the stores of an unlink: a word is left in the prepared frame; the table stays in the book; the pointer to it
+-- stays; the path stays in it; it stays known. And a bridge that isn't of the spine of two levels.
+abbrev unlinking : View
+unlinking = prepares_table (at 0 4) None
+
+abbrev cut_words : List ℕ
+cut_words = with_words 1 1 0 0 0 0 0
+
+pub word_left : ¬ FramesPart small 4 (with_words 1 1 0 0 36865 0 0) (unlinking ∷ [])
+word_left part = differ 36865 0 refl (part.cleared 1 1 (omega arith) (λ a. differ 1 0 refl a.unprepared) (omega arith))
+
+abbrev keeps_table : View
+keeps_table = record unlinking { tables = at 0 4 ∷ [] }
+
+pub table_left : ¬ PositionsPart small 4 2 cut_words (keeps_table ∷ [])
+table_left part = let x = part.all (at 0 4) refl in
+    four (λ g. total (prepares g) (keeps_table ∷ []) ≡ 0 → placed_at (tag cut_words g) ≡ at 0 4 → ⊥)
+    (λ n e. differ 0 4 refl (ap (λ (p : Position). p.base) e)) (λ n e. differ 1 0 refl n)
+    (λ n e. differ 0 4 refl (ap (λ (p : Position). p.base) e)) (λ n e. differ 0 4 refl (ap (λ (p : Position). p.base) e)) x.0 x.1.is_linked.within x.1.is_linked.unprepared x.1.at
+
+pub pointer_left : ¬ EntriesPart small 4 2 (with_words 1 1 0 4294971395 0 0 0) (unlinking ∷ [])
+pointer_left part = differ 4294971395 0 refl (part.words_are 0 1 (at 1 0) (linked _ (unlinking ∷ []) 0 (at 1 0) (omega arith) refl refl refl) (omega arith) refl)
+
+pub path_left : ¬ PathsPart small 4 cut_words (record unlinking { path = mapped_view.path } ∷ [])
+path_left part = differ 1 0 refl ((part 0 (record unlinking { path = mapped_view.path }) refl).nodes.1.0.at.is_linked.unprepared)
+
+pub known_left : ¬ KnownPart small 2 cut_words (unlinking ∷ [])
+known_left part = cc ((part 0 unlinking refl (at 0 4) (omega arith)).0)
+
+abbrev low_bridge : View
+low_bridge = prepares_table (at 1 0) (Some 2)
+
+pub bridge_below : ¬ FramesPart small 4 cut_words (low_bridge ∷ [])
+bridge_below part =
+    let b = part.bridges 0 low_bridge refl in
+    let level : 1 ≡ b.0 + 1 = ap (λ (p : Position). p.level) b.1 in
+    let high : 1 ≤ b.0 = b.3 in omega arith

@@ -5,81 +5,12 @@ use Rattle.std.specs.List.{AllByRecursion}
 use Rattle.std.proofs.lemmas.Bool.{cases_Bool, cases_order, false_from_ne_true, and_parts, and_from, or_cases, or_left, or_right, ltb-true, lt-ltb, eqb-true, eq-eqb}
 use Rattle.pt_model.specs.declared.position.Position.{Position}
 use Rattle.pt_model.specs.Tables.{is_before, is_spine, add_position}
+use Rattle.pt_model.proofs.Positions.{before_trans, before_order, add_after, add_before, add_there}
 use Rattle.pt_view.specs.Lists.{IsAmong}
 use Rattle.pt_view.specs.Calls.{with_table}
 use Rattle.pt_rule.specs.Lawful.{InOrder}
 use Rattle.pt_rule.proofs.TotalsKept.{among_here, among_more, among_cases, all_map}
 use Rattle.pt_rule.proofs.PositionFacts.{same_position}
-
--- The order of positions.
-
-pub before_cases : (p q : Position) → is_before p q ≡ true →
-    (p.level < q.level) ⊎ ((p.level ≡ q.level) × (p.base < q.base))
-before_cases p q e =
-    elim (or_cases (nat_lt p.level q.level) _ e) [
-      | inl lower ↦ inl (ltb-true p.level q.level lower)
-      | inr beside ↦
-          let h = and_parts (p.level == q.level) _ beside in
-          inr (eqb-true p.level q.level h.0, ltb-true p.base q.base h.1)
-    ]
-
-pub before_lower : (p q : Position) → p.level < q.level → is_before p q ≡ true
-before_lower p q h = or_left (nat_lt p.level q.level) _ (lt-ltb p.level q.level h)
-
-pub before_beside : (p q : Position) → p.level ≡ q.level → p.base < q.base → is_before p q ≡ true
-before_beside p q e h =
-    or_right (nat_lt p.level q.level) _ (and_from (p.level == q.level) _ (eq-eqb p.level q.level e) (lt-ltb p.base q.base h))
-
-pub before_self : (p : Position) → is_before p p ≡ true → ⊥
-before_self p e = elim (before_cases p p e) [ inl h ↦ omega arith | inr h ↦ omega arith ]
-
-pub before_trans : (p q r : Position) → is_before p q ≡ true → is_before q r ≡ true → is_before p r ≡ true
-before_trans p q r e h =
-    elim (before_cases p q e) [
-      | inl a ↦ elim (before_cases q r h) [
-        | inl b ↦ before_lower p r (omega arith)
-        | inr b ↦ before_lower p r (omega arith)
-      ]
-      | inr a ↦ elim (before_cases q r h) [
-        | inl b ↦ before_lower p r (omega arith)
-        | inr b ↦ before_beside p r (omega arith) (omega arith)
-      ]
-    ]
-
-pub before_order : (p q : Position) → (is_before p q ≡ true) ⊎ ((p ≡ q) ⊎ (is_before q p ≡ true))
-before_order p q =
-    elim (cases_order p.level q.level) [
-      | inl same ↦ elim (cases_order p.base q.base) [
-        | inl equal ↦ inr (inl (same_position p q same equal))
-        | inr other ↦ elim other [
-          | inl less ↦ inl (before_beside p q same less)
-          | inr more ↦ inr (inr (before_beside q p (sym same) more))
-        ]
-      ]
-      | inr other ↦ elim other [
-        | inl less ↦ inl (before_lower p q less)
-        | inr more ↦ inr (inr (before_lower q p more))
-      ]
-    ]
-
-pub not_before : (p q : Position) → is_before q p ≡ true → is_before p q ≡ false
-not_before p q e = false_from_ne_true (is_before p q) (λ h. before_self p (before_trans p q p h e))
-
-pub same_not_before : (p q : Position) → p ≡ q → is_before p q ≡ false
-same_not_before p q e = false_from_ne_true (is_before p q) (λ h. before_self q (subst (λ r. is_before r q ≡ true) e h))
-
--- A position added to a list.
-
-pub add_after : (q : Position) (qs : List Position) (p : Position) → is_before q p ≡ true →
-    add_position (q ∷ qs) p ≡ q ∷ add_position qs p
-add_after q qs p e = rw (e, add_position) refl
-
-add_before : (q : Position) (qs : List Position) (p : Position) → is_before p q ≡ true →
-    add_position (q ∷ qs) p ≡ p ∷ (q ∷ qs)
-add_before q qs p e = rw (not_before q p e, add_position) (rw e refl)
-
-pub add_there : (q : Position) (qs : List Position) (p : Position) → q ≡ p → add_position (q ∷ qs) p ≡ q ∷ qs
-add_there q qs p e = rw (same_not_before q p e, add_position) (rw (same_not_before p q (sym e)) refl)
 
 -- what stands in a list with a position added
 

@@ -261,7 +261,7 @@ module _ (f : Layout) (n l : ℕ) (good : IsLayout f) (words : List ℕ) (views 
   lawful : Lawful f n l words' views'
   lawful = record {
     spans = spans_set f views id v w at same r.spans;
-    frames = frames_same f n words words' views id v w at links tags refl refl
+    frames = frames_same f n words words' views id v w at links tags refl refl refl
         (λ h i lt unlinked small. else_same h i small (λ e d. unlinked (subst (IsLinked n words views) (sym e) here.is_linked))) r.frames;
     positions = positions_same f n l words words' views views' links tree r.positions;
     root = root_same n l words words' views id v w at links root refl raised.0 raised.2 r.root;

@@ -1,22 +1,22 @@
 -- The kinds of step: one load, store or exchange of one word by one seat, and what it makes of the seat's
 -- view. A step names a kind and nothing else, so the histories of a view are what was met by construction.
-use Rattle.std.specs.Prelude.{◌≡◌, ◌⊎◌, false, ℕ, ◌+◌, ◌/◌, ◌%◌, ◌<◌, ◌≤◌, ◌==◌, nat_lt, not, List, [], ◌∷◌, ◌++◌, length, Option, None, Some, map, max, filter, slice_index, slice_set, IsTrue, if◌then◌else◌}
+use Rattle.std.specs.Prelude.{◌≡◌, ◌≢◌, ◌⊎◌, false, ℕ, ◌+◌, ◌/◌, ◌%◌, ◌^◌, ◌<◌, ◌≤◌, ◌==◌, nat_lt, not, List, [], ◌∷◌, ◌++◌, length, Option, None, Some, map, max, filter, slice_index, slice_set, IsTrue, if◌then◌else◌}
 use mathlib.Core.Option.{some}
 use lib.ListN.{get_elem?}
 use Rattle.pt_model.specs.declared.position.Position.{Position}
 use Rattle.pt_model.specs.Layout.{Layout, Found, table, end_of, input_pages, pages_of_table}
 use Rattle.pt_model.specs.Tables.{IsPosition, add_positions, child_at, end_of_table, is_spine, least_top, levels_between, spine_position, starting_top}
-use Rattle.pt_model.specs.Words.{entry_place, placed_word, frame_address, frame_named}
+use Rattle.pt_model.specs.Words.{entry_place, placed_word, frame_address, frame_named, root_word}
 use Rattle.pt_format.specs.Words.{IsTableLevel}
 use Rattle.pt_view.specs.declared.view.View.{View}
 use Rattle.pt_view.specs.declared.view.Node.{Node}
 use Rattle.pt_view.specs.declared.view.Piece.{Piece}
 use Rattle.pt_view.specs.declared.view.Prepared.{Prepared}
 use Rattle.pt_view.specs.declared.view.Absence.TheVariants.{Zero, Top}
-use Rattle.pt_view.specs.declared.view.Change.TheVariants.{Written}
-use Rattle.pt_view.specs.Lists.{IsIn, IsAmong}
-use Rattle.pt_view.specs.Pieces.{IsOneOf, add_piece, word_of}
-use Rattle.pt_view.specs.Calls.{lowest, entry_first, IsEntryAt, IsVacant, MeetsEntry, MayInstall, MayPut, off_spine, pieces_at, with_table}
+use Rattle.pt_view.specs.declared.view.Change.TheVariants.{Written, Cleared}
+use Rattle.pt_view.specs.Lists.{IsIn, IsAmong, without_position}
+use Rattle.pt_view.specs.Pieces.{IsOneOf, add_piece, number_of, table_of, word_of}
+use Rattle.pt_view.specs.Calls.{above, drop_at, lowest, entry_first, IsBare, IsEntryAt, IsVacant, MeetsEntry, MayDrop, MayInstall, MayPut, off_spine, pieces_at, with_table}
 use Rattle.pt_rule.specs.Tags.{IsEnd, first_or, held_word}
 use Rattle.pt_rule.specs.Lawful.{Lawful, IsOwnPiece}
 
@@ -39,6 +39,15 @@ pub data Kind : Type 0 where
   install : (frame number : ℕ) → Kind
   -- a store of a piece's word to such an entry
   write : (frame number : ℕ) → Piece → Kind
+  -- a store of zero to such an entry, at which a piece's word stands
+  clear : (frame number : ℕ) → Piece → Kind
+  -- a store of zero to an entry of the table above the path's last one, which is linked there and is left and prepared
+  unlink : (frame number : ℕ) → Kind
+  -- stores to entry 0 of the prepared frame: the pointer to the old top, which is at this level, or zero again
+  bridge : (frame old level : ℕ) → Kind
+  unbridge : (frame level : ℕ) → Kind
+  -- an exchange of the root, from the old top at this level to the prepared frame, one level up
+  raise : (frame old level : ℕ) → Kind
 
 -- The word that a step is on.
 abbrev pub place_of : Layout → (n : ℕ) → Kind → ℕ
@@ -52,6 +61,11 @@ place_of f n load_root = 0
 place_of f n (look frame number) = entry_place f n frame number
 place_of f n (install frame number) = entry_place f n frame number
 place_of f n (write frame number x) = entry_place f n frame number
+place_of f n (clear frame number x) = entry_place f n frame number
+place_of f n (unlink frame number) = entry_place f n frame number
+place_of f n (bridge frame old level) = entry_place f n frame 0
+place_of f n (unbridge frame level) = entry_place f n frame 0
+place_of f n (raise frame old level) = 0
 
 -- What it puts there, where it found this number.
 abbrev pub pointer_to : Layout → (level : ℕ) → Option Prepared → ℕ
@@ -73,6 +87,11 @@ put f load_root v found = found
 put f (look frame number) v found = found
 put f (install frame number) v found = if found == 0 then pointer_to f (level_at (lowest v.path)) v.prepared else found
 put f (write frame number x) v found = word_of f x
+put f (clear frame number x) v found = 0
+put f (unlink frame number) v found = 0
+put f (bridge frame old level) v found = f.pointer (level + 1) (frame_address f old)
+put f (unbridge frame level) v found = 0
+put f (raise frame old level) v found = if found == root_word old level then root_word frame (level + 1) else found
 
 -- The view after it.
 
@@ -139,6 +158,42 @@ written f x v = record v {
   stores = v.stores ++ Written x ∷ [];
 }
 
+abbrev pub cleared : Layout → Piece → View → View
+cleared f x v = record v {
+  pieces = drop_at f (table_of f x) (number_of f x) v.pieces;
+  stores = v.stores ++ Cleared x ∷ [];
+}
+
+-- the path's last table is of the tree no more, and its frame is prepared for its position
+abbrev pub unlinked : Option Node → View → View
+unlinked None v = v
+unlinked (Some x) v = record v {
+  tables = without_position x.position v.tables;
+  path = above v.path;
+  prepared = Some (record { frame = x.frame; position = x.position; bridge = None });
+  known = without_position x.position v.known;
+}
+
+-- a frame prepared for the spine position over a level
+abbrev pub over_top : (frame level : ℕ) → Option ℕ → Prepared
+over_top frame level old = record { frame = frame; position = spine_position (level + 1); bridge = old }
+
+-- the spine's positions up to a level, and others
+abbrev pub with_spine : (levels level : ℕ) → List Position → List Position
+with_spine levels level ps = map spine_position (levels_between (starting_top levels) level) ++ ps
+
+-- the prepared frame is the new top, or the root was another by then
+abbrev pub raised : (frame old level found : ℕ) → View → View
+raised frame old level found v =
+    if found == root_word old level
+    then record v {
+      top = level + 1;
+      prepared = None;
+      path = record { frame = frame; position = spine_position (level + 1) } ∷ [];
+      known = with_spine v.levels (level + 1) v.known;
+    }
+    else record v { path = []; known = with_spine v.levels (found % 8) v.known }
+
 abbrev pub after : Layout → Kind → (found : ℕ) → View → View
 after f (take frame) found v =
     if found == 0 then record v { purse = frame ∷ v.purse; busy = frame ∷ v.busy }
@@ -157,12 +212,27 @@ after f load_root found v = record v {
 after f (look frame number) found v = met f number found v
 after f (install frame number) found v = installed f number found v
 after f (write frame number x) found v = written f x v
+after f (clear frame number x) found v = cleared f x v
+after f (unlink frame number) found v = unlinked (lowest v.path) v
+after f (bridge frame old level) found v = record v { prepared = Some (over_top frame level (Some old)) }
+after f (unbridge frame level) found v = record v { prepared = Some (over_top frame level None) }
+after f (raise frame old level) found v = raised frame old level found v
 
 -- When it may be made, by the view before it.
 
 -- the path's last table is in this frame
 abbrev pub IsLowestIn : View → (frame : ℕ) → Type 0
 IsLowestIn v frame = (p : Position) × (lowest v.path ≡ Some (record { frame = frame; position = p }))
+
+-- the path's last table is linked at this entry of the one above it, which is in this frame, and is bare; nothing is prepared
+pub record MayCut (f : Layout) (v : View) (frame number : ℕ) : Type 0 where
+  pub position : Position
+  pub child : ℕ
+  pub over : lowest (above v.path) ≡ Some (record { frame = frame; position = position })
+  pub last : lowest v.path ≡ Some (record { frame = child; position = child_at f position number })
+  pub within : number < 2 ^ f.index
+  pub bare : IsBare f v position number
+  pub none : v.prepared ≡ None
 
 abbrev pub May : Layout → (n : ℕ) → Kind → View → Type 0
 May f n (take frame) v = frame < n
@@ -175,6 +245,12 @@ May f n load_root v = v.path ≡ []
 May f n (look frame number) v = IsLowestIn v frame × MeetsEntry f v number
 May f n (install frame number) v = IsLowestIn v frame × MayInstall f v number
 May f n (write frame number x) v = IsLowestIn v frame × MayPut f v number x
+May f n (clear frame number x) v = IsLowestIn v frame × MayDrop f v number x
+May f n (unlink frame number) v = MayCut f v frame number
+May f n (bridge frame old level) v =
+    (v.prepared ≡ Some (over_top frame level None)) × (lowest v.path ≡ Some (record { frame = old; position = spine_position level })) × (v.top ≤ level)
+May f n (unbridge frame level) v = (old : ℕ) × (v.prepared ≡ Some (over_top frame level (Some old)))
+May f n (raise frame old level) v = v.prepared ≡ Some (over_top frame level (Some old))
 
 -- What the number found tells the stepper.
 
@@ -215,6 +291,27 @@ pub record WriteTells (f : Layout) (v : View) (x : Piece) (found : ℕ) : Type 0
   pub same_tables : v.count ≡ input_pages f → (written f x v).tables ≡ v.tables
   pub same_top : v.count ≡ input_pages f → (written f x v).top ≡ v.top
 
+-- a store of zero over a piece finds its word, and no other piece stands there
+pub record ClearTells (f : Layout) (v : View) (x : Piece) (found : ℕ) : Type 0 where
+  pub was_word : found ≡ word_of f x
+  pub alone : pieces_at f (table_of f x) (number_of f x) v.pieces ≡ 1
+
+-- a store of zero over a table finds the pointer to its frame, and the table was one of the book
+pub record UnlinkTells (f : Layout) (n : ℕ) (v : View) (found : ℕ) : Type 0 where
+  pub child : Node
+  pub last : lowest v.path ≡ Some child
+  pub a_frame : child.frame < n
+  pub was_pointer : found ≡ f.pointer (child.position.level + 1) (frame_address f child.frame)
+  pub own : IsAmong v.tables child.position
+  pub fewer : length (without_position child.position v.tables) + 1 ≡ length v.tables
+
+-- the number that a raise found is a root, and where it isn't the old top's, its level is higher
+pub record RaiseTells (f : Layout) (n : ℕ) (v : View) (old level found : ℕ) : Type 0 where
+  pub root : RootTells f n v found
+  pub won : found ≡ root_word old level → found % 8 ≡ level
+  pub lost : found ≢ root_word old level → level < found % 8
+  pub legal : level + 1 < f.levels
+
 abbrev pub Tells : Layout → (n : ℕ) → Kind → View → (found : ℕ) → Type 0
 Tells f n (take frame) v found = found ≡ 0 → length v.purse < n
 Tells f n (look_tag frame) v found = found ≡ held_word (follows frame v.end v.purse)
@@ -222,6 +319,9 @@ Tells f n load_root v found = RootTells f n v found
 Tells f n (look frame number) v found = (p : Position) → IsEntryAt f v p number → EntryTells f n v p number found
 Tells f n (install frame number) v found = (p : Position) → IsEntryAt f v p number → InstallTells f n v p number found
 Tells f n (write frame number x) v found = WriteTells f v x found
+Tells f n (clear frame number x) v found = ClearTells f v x found
+Tells f n (unlink frame number) v found = UnlinkTells f n v found
+Tells f n (raise frame old level) v found = RaiseTells f n v old level found
 Tells f n _ v found = Unit {0}
 
 -- The law of a kind: whatever the words and the other views are, the step keeps the rule, and the number

@@ -34,13 +34,14 @@ IsPreparedAt words None = Unit {0}
 IsPreparedAt words (Some x) = placed_at (tag words x.frame) ≡ x.position
 
 -- a prepared frame's bridge is linked at the spine position under the prepared one
-abbrev pub HasBridge : Layout → (n : ℕ) → List ℕ → List View → (p : Position) → Option ℕ → Type 0
-HasBridge f n words views p None = Unit {0}
-HasBridge f n words views p (Some bridge) = (level : ℕ) × (p ≡ spine_position (level + 1)) × IsLinkedAt n words views bridge (spine_position level)
+abbrev pub HasBridge : Layout → (n : ℕ) → List ℕ → List View → (levels : ℕ) (p : Position) → Option ℕ → Type 0
+HasBridge f n words views levels p None = Unit {0}
+HasBridge f n words views levels p (Some bridge) =
+    (level : ℕ) × (p ≡ spine_position (level + 1)) × IsLinkedAt n words views bridge (spine_position level) × (starting_top levels ≤ level)
 
-abbrev pub IsBridged : Layout → (n : ℕ) → List ℕ → List View → Option Prepared → Type 0
-IsBridged f n words views None = Unit {0}
-IsBridged f n words views (Some x) = HasBridge f n words views x.position x.bridge
+abbrev pub IsBridged : Layout → (n : ℕ) → List ℕ → List View → (levels : ℕ) → Option Prepared → Type 0
+IsBridged f n words views levels None = Unit {0}
+IsBridged f n words views levels (Some x) = HasBridge f n words views levels x.position x.bridge
 
 pub record FramesPart (f : Layout) (n : ℕ) (words : List ℕ) (views : List View) : Type 0 where
   pub tags : (frame : ℕ) → frame < n → IsTag f (tag words frame)
@@ -49,7 +50,7 @@ pub record FramesPart (f : Layout) (n : ℕ) (words : List ℕ) (views : List Vi
   pub none_held : (frame : ℕ) → n ≤ frame → total (holds frame) views ≡ 0
   pub none_prepared : (frame : ℕ) → n ≤ frame → total (prepares frame) views ≡ 0
   pub at : Each views (λ v. IsPreparedAt words v.prepared)
-  pub bridges : Each views (λ v. IsBridged f n words views v.prepared)
+  pub bridges : Each views (λ v. IsBridged f n words views v.levels v.prepared)
   pub cleared : (frame number : ℕ) → frame < n → ¬ IsLinked n words views frame → number < 2 ^ f.index →
       entry_of f n words frame number ≡ total (has_bridge f frame number) views
 

@@ -1,5 +1,5 @@
 -- What is proved of the rule.
-use Rattle.std.specs.Prelude.{◌≡◌, ℕ, ◌+◌, ◌<◌, ◌≤◌, List, [], ◌∷◌}
+use Rattle.std.specs.Prelude.{◌≡◌, ℕ, ◌+◌, ◌<◌, ◌≤◌, List, [], ◌∷◌, ◌++◌, slice_set}
 use mathlib.Core.Option.{some}
 use lib.ListN.{get_elem?}
 use Rattle.pt_model.specs.declared.block.Block.{Block}
@@ -9,11 +9,13 @@ use Rattle.pt_model.specs.Words.{frame_limit}
 use Rattle.pt_format.specs.Laws.{IsLayout, WordsDiffer}
 use Rattle.pt_format.specs.Manual.{StepsAgree}
 use Rattle.pt_view.specs.declared.view.View.{View}
-use Rattle.pt_view.specs.Views.{IsAtRest, book_of, linked_of}
+use Rattle.pt_view.specs.Views.{IsAtRest, book_of, linked_of, spent}
 use Rattle.pt_view.specs.Calls.{held_count, HasEveryFrame}
 use Rattle.pt_rule.specs.Lawful.{Lawful}
-use Rattle.pt_rule.specs.Kinds.{Kind, Keeps, KeepsCut}
+use Rattle.pt_rule.specs.Kinds.{Kind, Keeps, KeepsCut, retrace}
 use Rattle.pt_rule.specs.Opening.{opening_view, IsNew}
+use Rattle.pt_rule.specs.Cuts.{MayJoin, MaySplit, joined, left_part, right_part}
+use Rattle.pt_rule.specs.Holds.{Holds}
 
 -- a new space is lawful, with its one view
 abbrev pub NewIsLawful : Type 0
@@ -49,3 +51,23 @@ abbrev pub BooksAreLawful : Type 0
 BooksAreLawful =
     (f : Layout) → IsLayout f → (n l : ℕ) (words : List ℕ) (views : List View) (id : ℕ) (v : View) → Lawful f n l words views → get_elem? views id ≡ some v →
     0 < v.count → (blocks : List Block) → IsAtRest f v blocks → IsLawful f v.levels (book_of v blocks)
+
+-- where a view is cut in two at a page on which no block lies across, both parts have its place; where two views side
+-- by side become one, the other's place has the spent view
+abbrev pub SplitsKeep : Type 0
+SplitsKeep =
+    (f : Layout) → IsLayout f → (n l : ℕ) (words : List ℕ) (views : List View) (id : ℕ) (v : View) (at kept : ℕ) → Lawful f n l words views → get_elem? views id ≡ some v →
+    0 < v.count → MaySplit f at kept (retrace [] v) →
+    Lawful f n l words (slice_set views id (left_part f at kept (retrace [] v)) ++ right_part f at kept (retrace [] v) ∷ [])
+
+abbrev pub JoinsKeep : Type 0
+JoinsKeep =
+    (f : Layout) → IsLayout f → (n l : ℕ) (words : List ℕ) (views : List View) (id other : ℕ) (v w : View) → Lawful f n l words views → get_elem? views id ≡ some v →
+    ¬ (other ≡ id) → get_elem? views other ≡ some w → 0 < v.count → 0 < w.count → MayJoin f (retrace [] v) (retrace [] w) →
+    Lawful f n l words (slice_set (slice_set views id (joined (retrace [] v) (retrace [] w))) other spent)
+
+-- what holds of each live view
+abbrev pub ViewsHold : Type 0
+ViewsHold =
+    (f : Layout) → IsLayout f → (n l : ℕ) (words : List ℕ) (views : List View) (id : ℕ) (v : View) → Lawful f n l words views → get_elem? views id ≡ some v →
+    0 < v.count → Holds f n l v

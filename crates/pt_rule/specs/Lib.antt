@@ -4,5 +4,8 @@ pub mod Linked
 pub mod Lawful
 pub mod Kinds
 pub mod Opening
+pub mod Cuts
+pub mod Holds
 pub mod Laws
 pub mod WholeView
+pub mod Union

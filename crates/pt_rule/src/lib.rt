@@ -4,11 +4,13 @@
 //!
 //! Promised: a new space is lawful; each step keeps the rule, whatever the words and the other views are, and
 //! the number that it finds tells what its kind says; a holder of the whole space is the only one; the book of a
-//! holder at rest is lawful; the pieces and the tables of a holder of the whole space are read from the words.
+//! holder at rest is lawful; the pieces and the tables of a holder of the whole space are read from the words; the
+//! manual's walk of the words is the union of what the views map.
 #![tactic(auto)]
 
-ghost use Rattle.pt_rule.specs.Laws.{NewIsLawful, StepsKeep, FrontsKeep, WholeIsAlone, WholeIsCounted, BooksAreLawful};
+ghost use Rattle.pt_rule.specs.Laws.{NewIsLawful, StepsKeep, FrontsKeep, SplitsKeep, JoinsKeep, ViewsHold, WholeIsAlone, WholeIsCounted, BooksAreLawful};
 ghost use Rattle.pt_rule.specs.WholeView.{WholeIsRead};
+ghost use Rattle.pt_rule.specs.Union.{WalkIsUnion};
 
 /// A new space is lawful, with the one view of the whole space.
 pub fn new_is_lawful()
@@ -16,8 +18,9 @@ pub fn new_is_lawful()
 {}
 
 /// Each kind of step keeps the rule, whatever the words and the other views are: the exchanges, stores and loads
-/// of a frame's tag, the loads of the root and of an entry, the exchange of an entry that links a table, and the
-/// store of a block's word to an entry. What the number found tells is `Tells` of the kind.
+/// of a frame's tag, the loads of the root and of an entry, the exchange of an entry that links a table, the
+/// store of a block's word to an entry, the stores of zero over such a word and over a table, and the stores of a
+/// bridge and the exchange of the root by which a tree grows. What the number found tells is `Tells` of the kind.
 pub fn steps_keep()
     ensures { StepsKeep }
 {}
@@ -25,6 +28,21 @@ pub fn steps_keep()
 /// What is said of a seat's step holds too of a step of a holder that has only the front of its seat's path.
 pub fn fronts_keep()
     ensures { FrontsKeep }
+{}
+
+/// A view that is cut in two at a page, where no block lies across it, keeps the rule as two views.
+pub fn splits_keep()
+    ensures { SplitsKeep }
+{}
+
+/// Two views at rest whose spans are side by side keep the rule as one.
+pub fn joins_keep()
+    ensures { JoinsKeep }
+{}
+
+/// What holds of each live view wherever the rule does.
+pub fn views_hold()
+    ensures { ViewsHold }
 {}
 
 /// A view whose span is the whole space is the only live one.
@@ -48,4 +66,10 @@ pub fn books_are_lawful()
 /// root's level, and its span begins at page 0.
 pub fn whole_is_read()
     ensures { WholeIsRead }
+{}
+
+/// The manual's walk of the words gives at each address the byte and the permission of the one piece of a view that
+/// has the page, and nothing where none has it. It never meets a word that is strange.
+pub fn walk_is_union()
+    ensures { WalkIsUnion }
 {}

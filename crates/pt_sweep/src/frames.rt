@@ -1,5 +1,6 @@
 //! The draw of free frames.
 
+ghost use Rattle.pt_view.specs.Views.{Stays};
 ghost use Rattle.std.specs.Prelude.{◌≡◌, ◌==◌, ℕ, ◌+◌, ◌<◌, ◌≤◌};
 ghost use Rattle.pt_view.specs.Lists.{AddsFrame, IsIn};
 ghost use Rattle.pt_view.specs.Calls.{HasEveryFrame, Takes, held_count};
@@ -15,9 +16,7 @@ use pt_view::Holder;
 /// It answers less than `count` only where it tried every frame: each was then taken by this call, or
 /// found not free at a step of it.
 pub fn draw<F: Format, H: Holder<F>>(holder: &mut H, count: u32) -> u32
-    ensures space { H.space holder.new ≡ H.space holder.old }
-    ensures aside { H.aside holder.new ≡ H.aside holder.old }
-    ensures alone { H.alone holder.old → H.alone holder.new }
+    ensures stays { Stays H.space H.aside H.alone holder.old holder.new }
     ensures linked { H.alone holder.old → H.linked holder.new ≡ H.linked holder.old }
     ensures keeps { KeepsBook (H.view holder.old) (H.view holder.new) }
     ensures place { SamePlace (H.view holder.old) (H.view holder.new) }
@@ -45,9 +44,7 @@ pub fn draw<F: Format, H: Holder<F>>(holder: &mut H, count: u32) -> u32
 /// Tries to take a frame, and answers how many were taken.
 fn try_one<F: Format, H: Holder<F>>(holder: &mut H, frame: u32) -> u32
     requires frame { frame < (H.view holder.old).frames }
-    ensures space { H.space holder.new ≡ H.space holder.old }
-    ensures aside { H.aside holder.new ≡ H.aside holder.old }
-    ensures alone { H.alone holder.old → H.alone holder.new }
+    ensures stays { Stays H.space H.aside H.alone holder.old holder.new }
     ensures linked { H.alone holder.old → H.linked holder.new ≡ H.linked holder.old }
     ensures keeps { KeepsBook (H.view holder.old) (H.view holder.new) }
     ensures place { SamePlace (H.view holder.old) (H.view holder.new) }

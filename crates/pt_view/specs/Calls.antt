@@ -1,6 +1,6 @@
 -- What each call of a holder does to its view. A clause on `taken`, `absent` or `stores` holds where the
 -- holder tells them, and one on `alone` where no other live view of its words exists.
-use Rattle.std.specs.Prelude.{◌≡◌, ◌⊎◌, ℕ, ◌+◌, ◌*◌, ◌^◌, ◌<◌, ◌≤◌, nat_le, nat_lt, ◌==◌, ◌&&◌, Bool, true, false, length, filter, map, not, List, [], ◌∷◌, ◌++◌, Option, Some, None, IsTrue, max, if◌then◌else◌}
+use Rattle.std.specs.Prelude.{◌≡◌, ◌⊎◌, ℕ, ◌+◌, ◌*◌, ◌^◌, ◌<◌, ◌≤◌, nat_le, nat_lt, ◌==◌, ◌&&◌, Bool, true, false, length, filter, map, not, List, [], ◌∷◌, ◌++◌, Option, Some, None, IsTrue, max, if◌then◌else◌, fold}
 use Rattle.pt_model.specs.Layout.{Layout, IsLegalBlock, end_of, pages_of_entry, pages_of_table}
 use Rattle.pt_model.specs.declared.position.Position.{Position}
 use Rattle.pt_model.specs.Tables.{add_position, add_positions, child_at, end_of_table, spine_position, is_spine, is_same, least_top, starting_top}
@@ -9,13 +9,13 @@ use Rattle.pt_view.specs.declared.view.Node.{Node}
 use Rattle.pt_view.specs.declared.view.Piece.{Piece}
 use Rattle.pt_view.specs.declared.view.Prepared.{Prepared}
 use Rattle.pt_view.specs.declared.view.Absence.TheVariants.{Zero, Top}
-use Rattle.pt_view.specs.declared.view.Change.TheVariants.{Written}
+use Rattle.pt_view.specs.declared.view.Change.TheVariants.{Written, Cleared}
 use Rattle.pt_view.specs.declared.holder.Seen.{Seen}
 use Rattle.pt_view.specs.declared.holder.Seen.TheVariants.{Empty, Leaf, Entered}
 use Rattle.pt_view.specs.declared.holder.Won.{Won}
 use Rattle.pt_view.specs.declared.holder.Won.TheVariants.{Yes, Met}
-use Rattle.pt_view.specs.Lists.{one_if, IsIn, IsAmong, SameFrames, AddsFrame, SamePositions, AddsPositions}
-use Rattle.pt_view.specs.Pieces.{IsOneOf, add_piece, table_of, number_of, word_of, words_of}
+use Rattle.pt_view.specs.Lists.{one_if, IsIn, IsAmong, SameFrames, AddsFrame, SamePositions, AddsPositions, RemovesPosition, without_position}
+use Rattle.pt_view.specs.Pieces.{IsOneOf, add_piece, add_pieces, pieces_by, first_of, table_of, number_of, word_of, words_of}
 use Rattle.pt_view.specs.Views.{SameRange, SameBook, SamePurse, SameHistory}
 
 -- Entries of the path's last table.
@@ -53,6 +53,10 @@ abbrev pub pieces_at : Layout → Position → (number : ℕ) → List Piece →
 pieces_at f p number [] = 0
 pieces_at f p number (x ∷ xs) =
     one_if (is_same p (table_of f x) && (number_of f x == number)) + pieces_at f p number xs
+
+-- the pieces of a list that stand elsewhere
+abbrev pub drop_at : Layout → Position → (number : ℕ) → List Piece → List Piece
+drop_at f p number xs = filter (λ x. pieces_at f p number (x ∷ []) == 0) xs
 
 -- the entry is one of the path's last table, at this position
 pub record IsEntryAt (f : Layout) (v : View) (p : Position) (number : ℕ) : Type 0 where
@@ -185,6 +189,52 @@ pub record IsInstalled (f : Layout) (tells : Type 0) (number : ℕ) (v : View) (
   pub known : (p : Position) → IsEntryAt f v p number → AddsPositions v.known w.known (λ q. q ≡ child_at f p number)
   pub told : tells → SameHistory v w
 
+-- the path is the node of a root at this level, and no more
+abbrev pub IsRootAt : View → (level : ℕ) → Type 0
+IsRootAt v level = (root : ℕ) × (v.path ≡ record { frame = root; position = spine_position level } ∷ [])
+
+-- what may be the new top: the frame that is prepared for the spine position over the root
+pub record MayGrow (v : View) : Type 0 where
+  pub root : ℕ
+  pub level : ℕ
+  pub path : v.path ≡ record { frame = root; position = spine_position level } ∷ []
+  pub reaches : v.top ≤ level
+  pub frame : ℕ
+  pub prepared : v.prepared ≡ Some (record { frame = frame; position = spine_position (level + 1); bridge = None })
+
+-- the prepared frame is the top, one level over the old one
+pub record IsRaised (f : Layout) (level : ℕ) (v w : View) : Type 0 where
+  pub prepared : w.prepared ≡ None
+  pub top : w.top ≡ level + 1
+  pub path : IsRootAt w (level + 1)
+  pub known : AddsPositions v.known w.known (λ p. IsTrue (is_spine v.levels p) × (p.level ≤ level + 1))
+  pub legal : level + 1 < f.levels
+
+-- another holder raised the root before, to the level that was found
+pub record IsOutgrown (f : Layout) (level : ℕ) (v w : View) : Type 0 where
+  pub prepared : w.prepared ≡ v.prepared
+  pub top : w.top ≡ v.top
+  pub path : w.path ≡ []
+  pub found : ℕ
+  pub higher : level < found
+  pub legal : found < f.levels
+  pub known : AddsPositions v.known w.known (λ p. IsTrue (is_spine v.levels p) × (p.level ≤ found))
+
+abbrev pub Grows : Layout → Won → (level : ℕ) → (v w : View) → Type 0
+Grows f Yes level v w = IsRaised f level v w
+Grows f Met level v w = IsOutgrown f level v w
+
+-- a lone holder's growth is never lost
+pub record IsGrown (f : Layout) (tells alone : Type 0) (v : View) (won : Won) (w : View) : Type 0 where
+  pub range : SameRange v w
+  pub pieces : w.pieces ≡ v.pieces
+  pub tables : w.tables ≡ v.tables
+  pub purse : SamePurse v w
+  pub busy : SameFrames v.busy w.busy
+  pub grows : (level : ℕ) → IsRootAt v level → Grows f won level v w
+  pub told : tells → SameHistory v w
+  pub wins : alone → won ≡ Yes
+
 -- what may be written into an entry: a piece of a legal block in the span, where the book has nothing
 pub record MayPut (f : Layout) (v : View) (number : ℕ) (piece : Piece) : Type 0 where
   pub position : Position
@@ -215,6 +265,97 @@ pub record IsWritten (f : Layout) (tells : Type 0) (number word : ℕ) (v w : Vi
   pub stores : tells → (piece : Piece) → word ≡ word_of f piece → MayPut f v number piece → w.stores ≡ v.stores ++ Written piece ∷ []
   pub told : tells → (w.taken ≡ v.taken) × (w.absent ≡ v.absent)
 
+-- Runs of entries.
+
+-- pieces for `count` entries from number `first` on, whose words go by a step; each may be written
+pub record ArePieces (f : Layout) (v : View) (first count word step : ℕ) (piece : ℕ → Piece) : Type 0 where
+  pub word_is : (i : ℕ) → i < count → word_of f (piece i) ≡ word + i * step
+  pub may : (i : ℕ) → i < count → MayPut f v (first + i) (piece i)
+
+pub record MayWriteRun (f : Layout) (v : View) (first count word step : ℕ) : Type 0 where
+  pub some : 0 < count
+  pub within : (i : ℕ) → i < count → word + i * step < 2 ^ 64
+  pub piece : ℕ → Piece
+  pub are : ArePieces f v first count word step piece
+
+-- the top, where it reaches over the blocks of these pieces
+abbrev pub top_over : Layout → (levels top : ℕ) → List Piece → ℕ
+top_over f levels top xs = fold (λ (t : ℕ) (x : Piece). max t (least_top f levels (end_of x.block))) top xs
+
+-- the pieces of these words join the pieces, the tables of the path are the book's, and the top reaches over them
+pub record IsWrittenRun (f : Layout) (tells : Type 0) (first count word step : ℕ) (v w : View) : Type 0 where
+  pub range : SameRange v w
+  pub purse : SamePurse v w
+  pub path : w.path ≡ v.path
+  pub prepared : w.prepared ≡ v.prepared
+  pub busy : SameFrames v.busy w.busy
+  pub known : SamePositions v.known w.known
+  pub tables : w.tables ≡ add_positions v.tables (off_spine v.levels v.path)
+  pub pieces : (piece : ℕ → Piece) → ArePieces f v first count word step piece → w.pieces ≡ add_pieces f v.pieces (pieces_by piece count)
+  pub top : (piece : ℕ → Piece) → ArePieces f v first count word step piece → w.top ≡ top_over f v.levels v.top (pieces_by piece count)
+  pub stores : tells → (piece : ℕ → Piece) → ArePieces f v first count word step piece → w.stores ≡ v.stores ++ map Written (pieces_by piece count)
+  pub told : tells → (w.taken ≡ v.taken) × (w.absent ≡ v.absent)
+
+-- Takings away.
+
+-- what may be cleared at an entry: the word of a piece of the book
+pub record MayDrop (f : Layout) (v : View) (number : ℕ) (piece : Piece) : Type 0 where
+  pub position : Position
+  pub entry : IsEntryAt f v position number
+  pub member : IsOneOf v.pieces piece
+  pub here : pieces_at f position number (piece ∷ []) ≡ 1
+
+abbrev pub MayClear : Layout → View → (number : ℕ) → Type 0
+MayClear f v number = (piece : Piece) × MayDrop f v number piece
+
+-- the piece at the entry leaves the pieces, and the tables and the top stay
+pub record IsCleared (f : Layout) (tells : Type 0) (number : ℕ) (v w : View) : Type 0 where
+  pub range : SameRange v w
+  pub purse : SamePurse v w
+  pub path : w.path ≡ v.path
+  pub prepared : w.prepared ≡ v.prepared
+  pub busy : SameFrames v.busy w.busy
+  pub known : SamePositions v.known w.known
+  pub tables : w.tables ≡ v.tables
+  pub top : w.top ≡ v.top
+  pub pieces : (p : Position) → IsEntryAt f v p number → w.pieces ≡ drop_at f p number v.pieces
+  pub stores : tells → (piece : Piece) → MayDrop f v number piece → w.stores ≡ v.stores ++ Cleared piece ∷ []
+  pub told : tells → (w.taken ≡ v.taken) × (w.absent ≡ v.absent)
+
+-- whether a piece begins under an entry
+abbrev pub begins_under : Layout → Position → (number : ℕ) → Piece → Bool
+begins_under f p number x = nat_le (entry_first f p number) (first_of f x) && nat_lt (first_of f x) (entry_end f p number)
+
+-- the child at an entry is off the spine and inside the span, and the book has no piece and no other table under the entry
+pub record IsBare (f : Layout) (v : View) (p : Position) (number : ℕ) : Type 0 where
+  pub high : 0 < p.level
+  pub off_spine : is_spine v.levels (child_at f p number) ≡ false
+  pub inside : IsTrue (is_in_span v (entry_first f p number) (entry_end f p number))
+  pub no_piece : (x : Piece) → IsOneOf v.pieces x → begins_under f p number x ≡ false
+  pub no_table : (q : Position) → IsAmong v.tables q → IsTrue (is_under f p number q) → q ≡ child_at f p number
+
+-- what may be unlinked at an entry: a table that was found linked there, and is bare
+pub record MayUnlink (f : Layout) (v : View) (number : ℕ) : Type 0 where
+  pub position : Position
+  pub entry : IsEntryAt f v position number
+  pub bare : IsBare f v position number
+  pub linked : IsAmong v.known (child_at f position number) ⊎ IsAmong v.tables (child_at f position number)
+  pub none : v.prepared ≡ None
+
+-- the child leaves the tables and the known positions, and its frame is the first of the purse
+pub record IsUnlinked (f : Layout) (tells : Type 0) (number : ℕ) (v w : View) : Type 0 where
+  pub range : SameRange v w
+  pub pieces : w.pieces ≡ v.pieces
+  pub top : w.top ≡ v.top
+  pub path : w.path ≡ v.path
+  pub purse : (frame : ℕ) × (w.purse ≡ frame ∷ v.purse)
+  pub end : w.end ≡ v.end
+  pub prepared : w.prepared ≡ None
+  pub busy : SameFrames v.busy w.busy
+  pub tables : (p : Position) → IsEntryAt f v p number → w.tables ≡ without_position (child_at f p number) v.tables
+  pub known : (p : Position) → IsEntryAt f v p number → RemovesPosition v.known w.known (child_at f p number)
+  pub told : tells → SameHistory v w
+
 -- a take was won or lost
 abbrev pub Takes : Bool → (tells : Type 0) → (frame : ℕ) → (v w : View) → Type 0
 Takes true tells frame v w = (w.purse ≡ frame ∷ v.purse) × (tells → w.taken ≡ v.taken)
@@ -233,8 +374,9 @@ pub record IsTaken (tells : Type 0) (frame : ℕ) (v : View) (won : Bool) (w : V
 
 -- Counts of frames.
 
+-- a frame is prepared, and it has no bridge
 abbrev pub IsPrepared : View → Type 0
-IsPrepared v = (x : Prepared) × (v.prepared ≡ Some x)
+IsPrepared v = (x : Prepared) × (v.prepared ≡ Some x) × (x.bridge ≡ None)
 
 -- the frames that a view holds or prepares
 abbrev pub prepared_count : Option Prepared → ℕ

@@ -1,5 +1,5 @@
 -- How often something stands in a list, and lists as sets.
-use Rattle.std.specs.Prelude.{◌≡◌, ◌⊎◌, ◌↔◌, ℕ, ◌+◌, ◌<◌, ◌==◌, Bool, List, [], ◌∷◌, if◌then◌else◌}
+use Rattle.std.specs.Prelude.{◌≡◌, ◌⊎◌, ◌↔◌, ℕ, ◌+◌, ◌<◌, ◌==◌, Bool, false, not, filter, List, [], ◌∷◌, if◌then◌else◌}
 use Rattle.pt_model.specs.declared.position.Position.{Position}
 use Rattle.pt_model.specs.Tables.{is_same}
 
@@ -36,3 +36,10 @@ SamePositions old new = (p : Position) → IsAmong new p ↔ IsAmong old p
 
 abbrev pub AddsPositions : (old new : List Position) → (Position → Type 0) → Type 0
 AddsPositions old new IsOne = (p : Position) → IsAmong new p ↔ (IsOne p ⊎ IsAmong old p)
+
+-- a list without a position, and the same positions but for one
+abbrev pub without_position : Position → List Position → List Position
+without_position p ps = filter (λ q. not (is_same p q)) ps
+
+abbrev pub RemovesPosition : (old new : List Position) → Position → Type 0
+RemovesPosition old new p = (q : Position) → IsAmong new q ↔ ((is_same p q ≡ false) × IsAmong old q)

@@ -1,5 +1,5 @@
 -- The words of blocks.
-use Rattle.std.specs.Prelude.{◌≡◌, ◌⊎◌, nat_le, if◌then◌else◌, ℕ, ◌+◌, ◌-◌, ◌*◌, ◌/◌, ◌%◌, ◌^◌, List, [], ◌∷◌, ◌++◌, map}
+use Rattle.std.specs.Prelude.{◌≡◌, ◌⊎◌, nat_le, if◌then◌else◌, ℕ, ◌+◌, ◌-◌, ◌*◌, ◌/◌, ◌%◌, ◌^◌, List, [], ◌∷◌, ◌++◌, map, fold}
 use Rattle.std.specs.List.{range_with_len}
 use Rattle.pt_model.specs.declared.block.Block.{Block}
 use Rattle.pt_model.specs.Layout.{Layout, level_of_size, pages_of_entry}
@@ -41,6 +41,14 @@ IsOneOf (y ∷ ys) x = (y ≡ x) ⊎ IsOneOf ys x
 abbrev pub add_piece : Layout → List Piece → Piece → List Piece
 add_piece f [] x = x ∷ []
 add_piece f (y ∷ ys) x = if nat_le (first_of f y) (first_of f x) then y ∷ add_piece f ys x else x ∷ (y ∷ ys)
+
+-- the pieces of a list put in one by one
+abbrev pub add_pieces : Layout → (old new : List Piece) → List Piece
+add_pieces f old new = fold (add_piece f) old new
+
+-- so many pieces, by their numbers from 0 on
+abbrev pub pieces_by : (ℕ → Piece) → (count : ℕ) → List Piece
+pieces_by piece count = map piece (range_with_len 0 count)
 
 -- all pieces of blocks, in order
 abbrev pub all_pieces : Layout → List Block → List Piece

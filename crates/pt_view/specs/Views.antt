@@ -70,3 +70,9 @@ linked_of v = length v.tables + length (levels_between (starting_top v.levels) v
 pub record Aside : Type 0 where
   pub blocks : List Block
   pub positions : List Position
+
+-- a call leaves the space that the holder is of and what it has set aside, and a holder that was alone is alone
+pub record Stays {X S : Type 0} (space : X → S) (aside : X → Aside) (alone : X → Type 0) (old new : X) : Type 0 where
+  pub same_space : space new ≡ space old
+  pub same_aside : aside new ≡ aside old
+  pub still_alone : alone old → alone new

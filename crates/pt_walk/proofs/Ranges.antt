@@ -1,7 +1,8 @@
 -- Ranges of pages under the path's last table: the pages of one entry, and the pieces that have one of them.
 use Rattle.std.proofs.Common.{◌≡◌, ◌⊎◌, ⊎_elim, ℕ, ◌+◌, ◌-◌, ◌*◌, ◌/◌, ◌%◌, ◌^◌, ◌<◌, ◌≤◌, min, List, [], ◌∷◌, ◌++◌, inl, inr, refl, ap, sym, ◌∙◌, subst, arith, append_assoc}
 use Rattle.std.specs.Prelude.{IsTrue, Option, Some, None, MatchOption, is_some, true, false}
-use Rattle.std.proofs.lemmas.Nat.{shr_split, shr_high, pow_pos, mod_below}
+use Rattle.std.proofs.lemmas.Nat.{mul-le, pow-add, shr_split, shr_high, pow_pos, mod_below}
+use Rattle.std.proofs.Math.Nat.{div-lt_iff_lt-mul, mul-le-mul_left}
 use Rattle.std.proofs.lemmas.Bool.{cases_lt}
 use Rattle.std.proofs.Math.Pow.{pow_mono}
 use mathlib.Core.Logic.{dite}
@@ -273,3 +274,18 @@ owns_more f v w page low level range book high here below = λ j from to. dite (
     (λ e. subst (λ (k : ℕ). IsAmong v.tables (position_over f page k) ⊎ IsTrue (is_spine v.levels (position_over f page k))) (sym e) here)
     (λ ne. ⊎_elim (λ a. inl (subst (λ (ps : List Position). IsAmong ps (position_over f page j)) book.tables a))
     (λ b. inr (subst (λ (n : ℕ). IsTrue (is_spine n (position_over f page j))) range.levels b)) (below j from (omega arith)))
+
+-- the entry of a higher table over a page ends where that of a lower one does or behind it
+pub wider_entry : (page index low high : ℕ) → low ≤ high → (page / 2 ^ (index * low) + 1) * 2 ^ (index * low) ≤ (page / 2 ^ (index * high) + 1) * 2 ^ (index * high)
+wider_entry page index low high less =
+    let i : ℕ = index * low in
+    let j : ℕ = index * high in
+    let up : index * low ≤ index * high = mul-le-mul_left index less in
+    let more : j ≡ (j - i) + i = omega arith in
+    let size : 2 ^ j ≡ 2 ^ (j - i) * 2 ^ i = ap (λ (k : ℕ). 2 ^ k) more ∙ pow-add 2 (j - i) i in
+    let whole : (page / 2 ^ j + 1) * 2 ^ j ≡ (page / 2 ^ j + 1) * 2 ^ (j - i) * 2 ^ i =
+    ap (λ (n : ℕ). (page / 2 ^ j + 1) * n) size ∙ (let g : (page / 2 ^ j + 1) * (2 ^ (j - i) * 2 ^ i) ≡ (page / 2 ^ j + 1) * 2 ^ (j - i) * 2 ^ i = omega arith in g) in
+    let past = past_here page j in
+    let below : page / 2 ^ i < (page / 2 ^ j + 1) * 2 ^ (j - i) = (div-lt_iff_lt-mul (pow_pos i)).1 (omega arith) in
+    let fits = mul-le (page / 2 ^ i + 1) (2 ^ i) ((page / 2 ^ j + 1) * 2 ^ (j - i)) (2 ^ i) (omega arith) (omega arith) in
+    omega arith

@@ -15,6 +15,6 @@ mod walker;
 mod way;
 
 pub use numbers::{entry_bits, entry_number};
-pub use range::{climb, descend, entry_end, first_below};
+pub use range::{climb, descend, entry_end, first_at, first_below};
 pub use translate::{OutsideLease, lookup};
 pub use walker::{RangeWalk, first_mapped, next_block};

@@ -1,5 +1,6 @@
 //! The way down to the leaf over a page, and back.
 
+ghost use Rattle.pt_view.specs.Views.{Stays};
 ghost use Rattle.std.specs.Prelude.{◌≡◌, MatchOption, []};
 ghost use Rattle.pt_walk.specs.Walks.{leaf_in, IsAsked, IsGoing, HasNone, HasNowhere, IsFound, Walked, WentDown};
 
@@ -26,9 +27,7 @@ pub(crate) struct Lowest {
 /// Goes down the way to a page to its end, from the path's last table, of this level.
 fn go_down<F: Format, H: Holder<F>>(holder: &mut H, page: u64, level: u32) -> Lowest
     requires going { IsGoing F.layout (H.view holder.old) page level }
-    ensures space { H.space holder.new ≡ H.space holder.old }
-    ensures aside { H.aside holder.new ≡ H.aside holder.old }
-    ensures alone { H.alone holder.old → H.alone holder.new }
+    ensures stays { Stays H.space H.aside H.alone holder.old holder.new }
     ensures linked { H.alone holder.old → H.linked holder.new ≡ H.linked holder.old }
     ensures walked { Walked H.tells (H.view holder.old) (H.view holder.new) }
     ensures down { WentDown F.layout (H.view holder.old) (H.view holder.new) page level result.level }
@@ -45,9 +44,7 @@ fn go_down<F: Format, H: Holder<F>>(holder: &mut H, page: u64, level: u32) -> Lo
 pub(crate) fn leaf_over<F: Format, H: Holder<F>>(holder: &mut H, page: u64) -> Option<Leaf>
     requires rest { (H.view holder.old).path ≡ [] }
     requires asked { IsAsked F.layout (H.view holder.old) page }
-    ensures space { H.space holder.new ≡ H.space holder.old }
-    ensures aside { H.aside holder.new ≡ H.aside holder.old }
-    ensures alone { H.alone holder.old → H.alone holder.new }
+    ensures stays { Stays H.space H.aside H.alone holder.old holder.new }
     ensures linked { H.alone holder.old → H.linked holder.new ≡ H.linked holder.old }
     ensures walked { Walked H.tells (H.view holder.old) (H.view holder.new) }
     ensures rest { (H.view holder.new).path ≡ [] }

@@ -1,6 +1,7 @@
 //! Ranges of pages: the table over a whole range, and the lowest mapped page of it.
 
-ghost use Rattle.std.specs.Prelude.{◌≡◌, ◌+◌, ◌-◌, ◌*◌, ◌/◌, ◌^◌, ◌<◌, ◌≤◌, MatchOption, min, length, List, [], ◌++◌};
+ghost use Rattle.pt_view.specs.Views.{Stays};
+ghost use Rattle.std.specs.Prelude.{◌≡◌, ◌+◌, ◌-◌, ◌*◌, ◌/◌, ◌^◌, ◌<◌, ◌≤◌, IsTrue, MatchOption, min, length, List, [], ◌++◌};
 ghost use Rattle.pt_model.specs.Layout.{input_pages, pages_of_entry};
 ghost use Rattle.pt_view.specs.Calls.{above};
 ghost use Rattle.pt_view.specs.declared.view.Node.{Node};
@@ -21,20 +22,37 @@ pub fn entry_end<F: Format>(level: u32, page: u64) -> u64
     ((page >> bits) + 1) << bits
 }
 
+/// Whether a range lies under one entry of a table of a level. Where the caller knows that it is `whole`, under one
+/// entry of a table of level `lowest`, nothing is tested.
+#[inline(always)]
+fn lies_under<F: Format>(level: u32, lowest: u32, first: u64, end: u64, whole: bool) -> bool
+    requires a_level { level < F.layout.levels }
+    requires a_page { first < input_pages F.layout }
+    requires lowest { lowest ≤ level }
+    requires whole { IsTrue whole → end ≤ (first / pages_of_entry F.layout lowest + 1) * pages_of_entry F.layout lowest }
+    ensures { IsTrue result → end ≤ (first / pages_of_entry F.layout level + 1) * pages_of_entry F.layout level }
+{
+    if whole {
+        return true;
+    }
+    end <= entry_end::<F>(level, first)
+}
+
 /// Goes down, from the path's last table, of this level, while the range lies under one of its entries,
-/// that names a table, and the level is above `lowest`. Answers the level of the table where it ends.
+/// that names a table, and the level is above `lowest`. Answers the level of the table where it ends. Where the
+/// caller knows that the range is `whole`, under one entry of a table of level `lowest`, that isn't tested.
 pub fn descend<F: Format, H: Holder<F>>(
     holder: &mut H,
     level: u32,
     lowest: u32,
     first: u64,
     end: u64,
+    whole: bool,
 ) -> u32
     requires range { IsOverRange F.layout (H.view holder.old) first end level }
     requires lowest { lowest ≤ level }
-    ensures space { H.space holder.new ≡ H.space holder.old }
-    ensures aside { H.aside holder.new ≡ H.aside holder.old }
-    ensures alone { H.alone holder.old → H.alone holder.new }
+    requires whole { IsTrue whole → end ≤ (first / pages_of_entry F.layout lowest + 1) * pages_of_entry F.layout lowest }
+    ensures stays { Stays H.space H.aside H.alone holder.old holder.new }
     ensures linked { H.alone holder.old → H.linked holder.new ≡ H.linked holder.old }
     ensures walked { Walked H.tells (H.view holder.old) (H.view holder.new) }
     ensures range { IsOverRange F.layout (H.view holder.new) first end result }
@@ -43,9 +61,9 @@ pub fn descend<F: Format, H: Holder<F>>(
     ensures owned { H.alone holder.old → OwnsOver F.layout (H.view holder.old) first result level }
     ensures clear { OwnsAll F.layout (H.view holder.old) → IsClear F.layout (H.view holder.old) first end level → IsClear F.layout (H.view holder.new) first end result }
 {
-    if level > lowest && end <= entry_end::<F>(level, first) {
+    if level > lowest && lies_under::<F>(level, lowest, first, end, whole) {
         match holder.enter(entry_number::<F>(level, first)) {
-            Seen::Entered => descend::<F, H>(holder, level - 1, lowest, first, end),
+            Seen::Entered => descend::<F, H>(holder, level - 1, lowest, first, end, whole),
             _ => level,
         }
     } else {
@@ -56,9 +74,7 @@ pub fn descend<F: Format, H: Holder<F>>(
 /// Leaves so many tables of the path.
 pub fn climb<F: Format, H: Holder<F>>(holder: &mut H, tables: u32)
     requires { tables ≤ length (H.view holder.old).path }
-    ensures space { H.space holder.new ≡ H.space holder.old }
-    ensures aside { H.aside holder.new ≡ H.aside holder.old }
-    ensures alone { H.alone holder.old → H.alone holder.new }
+    ensures stays { Stays H.space H.aside H.alone holder.old holder.new }
     ensures linked { H.alone holder.old → H.linked holder.new ≡ H.linked holder.old }
     ensures left { (front nodes : List Node) → (H.view holder.old).path ≡ front ++ nodes → length nodes ≡ tables → H.view holder.new ≡ record (H.view holder.old) { path = front } }
 {
@@ -78,9 +94,7 @@ pub fn first_below<F: Format, H: Holder<F>>(
 ) -> Option<u64>
     requires range { IsOverRange F.layout (H.view holder.old) first end level }
     requires owns { OwnsAll F.layout (H.view holder.old) }
-    ensures space { H.space holder.new ≡ H.space holder.old }
-    ensures aside { H.aside holder.new ≡ H.aside holder.old }
-    ensures alone { H.alone holder.old → H.alone holder.new }
+    ensures stays { Stays H.space H.aside H.alone holder.old holder.new }
     ensures linked { H.alone holder.old → H.linked holder.new ≡ H.linked holder.old }
     ensures walked { Walked H.tells (H.view holder.old) (H.view holder.new) }
     ensures path { (H.view holder.new).path ≡ (H.view holder.old).path }
@@ -98,9 +112,11 @@ pub fn first_below<F: Format, H: Holder<F>>(
     None
 }
 
-/// The lowest mapped page of a range under one entry of the path's last table.
+/// The lowest mapped page of a range under one entry of the path's last table, of this level, where no piece
+/// of a higher level has one of its pages.
 #[cycle(first_below)]
-fn first_at<F: Format, H: Holder<F>>(
+#[inline(always)]
+pub fn first_at<F: Format, H: Holder<F>>(
     holder: &mut H,
     level: u32,
     first: u64,
@@ -109,9 +125,7 @@ fn first_at<F: Format, H: Holder<F>>(
     requires range { IsOverRange F.layout (H.view holder.old) first end level }
     requires one { end ≤ (first / pages_of_entry F.layout level + 1) * pages_of_entry F.layout level }
     requires owns { OwnsAll F.layout (H.view holder.old) }
-    ensures space { H.space holder.new ≡ H.space holder.old }
-    ensures aside { H.aside holder.new ≡ H.aside holder.old }
-    ensures alone { H.alone holder.old → H.alone holder.new }
+    ensures stays { Stays H.space H.aside H.alone holder.old holder.new }
     ensures linked { H.alone holder.old → H.linked holder.new ≡ H.linked holder.old }
     ensures walked { Walked H.tells (H.view holder.old) (H.view holder.new) }
     ensures path { (H.view holder.new).path ≡ (H.view holder.old).path }

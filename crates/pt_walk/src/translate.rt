@@ -6,7 +6,7 @@ ghost use Rattle.pt_model.specs.declared.block.Prot.{Prot};
 ghost use Rattle.pt_model.specs.Layout.{input_pages};
 ghost use Rattle.pt_model.specs.Book.{is_outside, translation};
 ghost use Rattle.pt_format.specs.Words.{IsLeaf};
-ghost use Rattle.pt_view.specs.Views.{IsAtRest, book_of};
+ghost use Rattle.pt_view.specs.Views.{Stays, IsAtRest, book_of};
 ghost use Rattle.pt_walk.specs.Walks.{IsPageIn, MapsTo, Rests, Walked};
 
 use crate::path::{Leaf, leaf_over};
@@ -53,9 +53,7 @@ pub fn lookup<F: Format, H: Holder<F>>(
     address: u64,
 ) -> Result<Option<(u64, Prot)>, OutsideLease>
     requires rest { Rests F.layout (H.view holder.old) }
-    ensures space { H.space holder.new ≡ H.space holder.old }
-    ensures aside { H.aside holder.new ≡ H.aside holder.old }
-    ensures alone { H.alone holder.old → H.alone holder.new }
+    ensures stays { Stays H.space H.aside H.alone holder.old holder.new }
     ensures linked { H.alone holder.old → H.linked holder.new ≡ H.linked holder.old }
     ensures walked { Walked H.tells (H.view holder.old) (H.view holder.new) }
     ensures rest { (blocks : List Block) → IsAtRest F.layout (H.view holder.old) blocks → IsAtRest F.layout (H.view holder.new) blocks }

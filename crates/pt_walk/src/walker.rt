@@ -3,7 +3,7 @@
 ghost use Rattle.std.specs.Prelude.{◌≡◌, ℕ, ◌+◌, ◌<◌, ◌≤◌, List, [], filter, find, None};
 ghost use Rattle.pt_model.specs.declared.block.Block.{Block};
 ghost use Rattle.pt_model.specs.Book.{lowest_mapped, meets};
-ghost use Rattle.pt_view.specs.Views.{IsAtRest, book_of};
+ghost use Rattle.pt_view.specs.Views.{Stays, IsAtRest, book_of};
 ghost use Rattle.pt_walk.specs.Walks.{Rests, Walked};
 ghost use Rattle.pt_walk.specs.Ways.{HasNext, HasSpan, IsWalking, left_of, rested};
 
@@ -39,9 +39,7 @@ impl<F: Format> RangeWalk<F> {
     pub fn begin<H: Holder<F>>(holder: &mut H, span: Span) -> RangeWalk<F>
         requires rest { Rests F.layout (H.view holder.old) }
         requires span { HasSpan (H.view holder.old) span.first span.count }
-        ensures space { H.space holder.new ≡ H.space holder.old }
-        ensures aside { H.aside holder.new ≡ H.aside holder.old }
-        ensures alone { H.alone holder.old → H.alone holder.new }
+        ensures stays { Stays H.space H.aside H.alone holder.old holder.new }
         ensures linked { H.alone holder.old → H.linked holder.new ≡ H.linked holder.old }
         ensures walked { Walked H.tells (H.view holder.old) (H.view holder.new) }
         ensures walking { IsWalking F.layout (H.view holder.new) result }
@@ -69,9 +67,7 @@ impl<F: Format> RangeWalk<F> {
     /// is left.
     pub fn next<H: Holder<F>>(&mut self, holder: &mut H) -> Option<Block>
         requires walking { IsWalking F.layout (H.view holder.old) self.old }
-        ensures space { H.space holder.new ≡ H.space holder.old }
-        ensures aside { H.aside holder.new ≡ H.aside holder.old }
-        ensures alone { H.alone holder.old → H.alone holder.new }
+        ensures stays { Stays H.space H.aside H.alone holder.old holder.new }
         ensures linked { H.alone holder.old → H.linked holder.new ≡ H.linked holder.old }
         ensures walked { Walked H.tells (H.view holder.old) (H.view holder.new) }
         ensures walking { IsWalking F.layout (H.view holder.new) self.new }
@@ -84,9 +80,7 @@ impl<F: Format> RangeWalk<F> {
     /// Ends a walk: the holder is at rest again.
     pub fn end<H: Holder<F>>(self, holder: &mut H)
         requires walking { IsWalking F.layout (H.view holder.old) self }
-        ensures space { H.space holder.new ≡ H.space holder.old }
-        ensures aside { H.aside holder.new ≡ H.aside holder.old }
-        ensures alone { H.alone holder.old → H.alone holder.new }
+        ensures stays { Stays H.space H.aside H.alone holder.old holder.new }
         ensures linked { H.alone holder.old → H.linked holder.new ≡ H.linked holder.old }
         ensures left { H.view holder.new ≡ rested (H.view holder.old) }
     {
@@ -98,9 +92,7 @@ impl<F: Format> RangeWalk<F> {
 pub fn next_block<F: Format, H: Holder<F>>(holder: &mut H, span: Span) -> Option<Block>
     requires rest { Rests F.layout (H.view holder.old) }
     requires span { HasSpan (H.view holder.old) span.first span.count }
-    ensures space { H.space holder.new ≡ H.space holder.old }
-    ensures aside { H.aside holder.new ≡ H.aside holder.old }
-    ensures alone { H.alone holder.old → H.alone holder.new }
+    ensures stays { Stays H.space H.aside H.alone holder.old holder.new }
     ensures linked { H.alone holder.old → H.linked holder.new ≡ H.linked holder.old }
     ensures walked { Walked H.tells (H.view holder.old) (H.view holder.new) }
     ensures rest { (blocks : List Block) → IsAtRest F.layout (H.view holder.old) blocks → IsAtRest F.layout (H.view holder.new) blocks }
@@ -117,9 +109,7 @@ pub fn next_block<F: Format, H: Holder<F>>(holder: &mut H, span: Span) -> Option
 pub fn first_mapped<F: Format, H: Holder<F>>(holder: &mut H, span: Span) -> Option<u64>
     requires rest { Rests F.layout (H.view holder.old) }
     requires span { HasSpan (H.view holder.old) span.first span.count }
-    ensures space { H.space holder.new ≡ H.space holder.old }
-    ensures aside { H.aside holder.new ≡ H.aside holder.old }
-    ensures alone { H.alone holder.old → H.alone holder.new }
+    ensures stays { Stays H.space H.aside H.alone holder.old holder.new }
     ensures linked { H.alone holder.old → H.linked holder.new ≡ H.linked holder.old }
     ensures walked { Walked H.tells (H.view holder.old) (H.view holder.new) }
     ensures rest { (blocks : List Block) → IsAtRest F.layout (H.view holder.old) blocks → IsAtRest F.layout (H.view holder.new) blocks }

@@ -2,7 +2,7 @@
 
 ghost use Rattle.std.specs.Prelude.{◌≡◌, ℕ, ◌+◌, ◌-◌, ◌*◌, ◌<◌, ◌≤◌, List, length};
 ghost use Rattle.pt_model.specs.declared.block.Block.{Block};
-ghost use Rattle.pt_view.specs.Views.{IsAtRest};
+ghost use Rattle.pt_view.specs.Views.{Stays, IsAtRest};
 ghost use Rattle.pt_walk.specs.Walks.{Walked};
 ghost use Rattle.pt_walk.specs.Ways.{IsOnWay, IsWalking, Comes, HasNext, rested, left_of, work_of};
 
@@ -27,9 +27,7 @@ pub(crate) struct Way {
 /// Leaves the tables that are gone through.
 fn rise<F: Format, H: Holder<F>>(way: &mut Way, holder: &mut H)
     requires way { IsOnWay F.layout (H.view holder.old) way.old }
-    ensures space { H.space holder.new ≡ H.space holder.old }
-    ensures aside { H.aside holder.new ≡ H.aside holder.old }
-    ensures alone { H.alone holder.old → H.alone holder.new }
+    ensures stays { Stays H.space H.aside H.alone holder.old holder.new }
     ensures linked { H.alone holder.old → H.linked holder.new ≡ H.linked holder.old }
     ensures walked { Walked H.tells (H.view holder.old) (H.view holder.new) }
     ensures way { IsWalking F.layout (H.view holder.new) way.new }
@@ -51,9 +49,7 @@ fn rise<F: Format, H: Holder<F>>(way: &mut Way, holder: &mut H)
 fn step<F: Format, H: Holder<F>>(way: &mut Way, holder: &mut H) -> Option<Block>
     requires way { IsWalking F.layout (H.view holder.old) way.old }
     requires more { way.old.at < way.old.end }
-    ensures space { H.space holder.new ≡ H.space holder.old }
-    ensures aside { H.aside holder.new ≡ H.aside holder.old }
-    ensures alone { H.alone holder.old → H.alone holder.new }
+    ensures stays { Stays H.space H.aside H.alone holder.old holder.new }
     ensures linked { H.alone holder.old → H.linked holder.new ≡ H.linked holder.old }
     ensures walked { Walked H.tells (H.view holder.old) (H.view holder.new) }
     ensures way { IsWalking F.layout (H.view holder.new) way.new }
@@ -88,9 +84,7 @@ fn step<F: Format, H: Holder<F>>(way: &mut Way, holder: &mut H) -> Option<Block>
 /// The next block.
 pub(crate) fn next<F: Format, H: Holder<F>>(way: &mut Way, holder: &mut H) -> Option<Block>
     requires way { IsWalking F.layout (H.view holder.old) way.old }
-    ensures space { H.space holder.new ≡ H.space holder.old }
-    ensures aside { H.aside holder.new ≡ H.aside holder.old }
-    ensures alone { H.alone holder.old → H.alone holder.new }
+    ensures stays { Stays H.space H.aside H.alone holder.old holder.new }
     ensures linked { H.alone holder.old → H.linked holder.new ≡ H.linked holder.old }
     ensures walked { Walked H.tells (H.view holder.old) (H.view holder.new) }
     ensures way { IsWalking F.layout (H.view holder.new) way.new }

@@ -9,11 +9,12 @@ use Rattle.pt_map.specs.Filled.{CountsTables, Filled, HasRoom, MayFill, Spends}
 use Rattle.pt_map.specs.Parts.{IsEntryPart, needs, needs_below, step, tiles}
 use Rattle.pt_map.proofs.Fills.{filled_left, filled_none, knows_left, level_some, may_inside, may_rest, room_into}
 use Rattle.pt_map.proofs.Firsts.{first_from, first_to}
-use Rattle.pt_map.proofs.Runs.{run_fits}
+use Rattle.pt_map.proofs.Runs.{run_fewer, run_fits}
 use Rattle.pt_map.proofs.Spent.{spends_none}
 use Rattle.pt_map.proofs.Tallies.{run_counts, counts_next, entry_counts}
 use Rattle.pt_map.proofs.Steps.{outputs_few, step_small}
-use Rattle.pt_map.proofs.Turns.{entry_inner, filled_all, filled_next, filled_run, knows_all, knows_next, level_is, may_inner, may_run, none_below, room_below, room_inner, room_rest, run_is_tiles, spends_below, spends_next, split_next, to_run}
+use Rattle.pt_map.proofs.Turns.{entry_inner, filled_all, filled_next, filled_run, knows_all, knows_next, level_is, may_inner, may_run, none_below, room_below, room_inner, room_rest, run_is_tiles, run_leaves, spends_below, spends_next, split_next, to_run}
+use Rattle.pt_view.proofs.Stays.{stays_here, stays_on}
 use Rattle.pt_map.proofs.fill.+fill.Goals as goal
 
 -- The loop over the parts of a part.
@@ -22,9 +23,7 @@ pub fill-loop-rest-init : goal.fill-loop-rest-init
 fill-loop-rest-init g t c =
     let v : View = g.H.Holder.view c.args.holder.now in
     record {
-      space = refl;
-      aside = refl;
-      alone = λ a. a;
+      stays = stays_here;
       linked = λ a. refl;
       within = let some = c.requires.may.at.part.some in omega arith;
       done = [];
@@ -82,10 +81,8 @@ fill-loop-rest-preserved g t c =
     let first : c.from-rest.result.first ≡ to = ap (λ (x : Part). x.first) c.from-rest.ensures in
     let most = first_to f good rest may.at.part c.args.level to e.to in
     record {
-      space = e.space ∙ h.space;
-      aside = e.aside ∙ h.aside;
-      alone = λ a. e.alone (h.alone a);
-      linked = λ a. e.linked (h.alone a) ∙ h.linked a;
+      stays = stays_on h.stays e.stays;
+      linked = λ a. e.linked (h.stays.still_alone a) ∙ h.linked a;
       within = omega arith;
       done = h.done ++ tiles f (record rest { end = to });
       split = subst (λ (x : Part). tiles f c.args.part ≡ (h.done ++ tiles f (record rest { end = to })) ++ tiles f x) (sym c.from-rest.ensures)
@@ -97,7 +94,7 @@ fill-loop-rest-preserved g t c =
       knows = knows_next f good g.H.Holder.tells c.args.part rest c.args.level v w h.done h.split h.filled may.at.part to e.to u e.filled h.knows e.knows;
       counts = counts_next f g.H.Holder.tells (g.H.Holder.alone c.args.holder.now) (g.H.Holder.alone c.loop-rest.holder) v w u c.args.part rest c.args.level
           (g.H.Holder.linked c.args.holder.now) (g.H.Holder.linked c.loop-rest.holder) (g.H.Holder.linked c.fill_first-to.new.holder) h.done (all_needed f f.levels h.done)
-          h.alone c.requires.may may h.filled h.counts e.counts;
+          h.stays.still_alone c.requires.may may h.filled h.counts e.counts;
     }
 
 pub fill-returns-clause-filled : goal.fill-returns-clause-filled
@@ -160,6 +157,18 @@ fill_entry-returns-clause-knows g t c =
 
 -- The first block, or the part under the first entry.
 
+pub fill_first-word_run-run-requires-clause-some : goal.fill_first-word_run-run-requires-clause-some
+fill_first-word_run-run-requires-clause-some g t c = c.run-count.ensures.some
+
+pub fill_first-word_run-run-requires-clause-leaves : goal.fill_first-word_run-run-requires-clause-leaves
+fill_first-word_run-run-requires-clause-leaves g t c =
+    let f = g.F.Format.layout in
+    let good = g.met.F.Format.lawful_layout in
+    let v : View = g.H.Holder.view c.args.holder.now in
+    let e : c.INDEX.result * c.args.level ≡ f.index * c.args.level = ap (λ (k : ℕ). k * c.args.level) (c.INDEX.ensures ∙ sym g.met.F.Format.has_constants.index_is) in
+    let high : f.index * c.args.level ≤ c.step-log2.result = (let t = c.if-log2-INDEX.true in omega arith) in
+    run_leaves f good g.H.Holder.tells v c.args.part c.args.level c.requires.may c.step-log2.result c.step-log2.ensures high c.run-count.result c.run-count.ensures
+
 pub fill_first-write_run-requires-clause-may : goal.fill_first-write_run-requires-clause-may
 fill_first-write_run-requires-clause-may g t c =
     let f = g.F.Format.layout in
@@ -167,16 +176,16 @@ fill_first-write_run-requires-clause-may g t c =
     let v : View = g.H.Holder.view c.args.holder.now in
     let e : c.INDEX.result * c.args.level ≡ f.index * c.args.level = ap (λ (k : ℕ). k * c.args.level) (c.INDEX.ensures ∙ sym g.met.F.Format.has_constants.index_is) in
     let high : f.index * c.args.level ≤ c.step-log2.result = (let t = c.if-log2-INDEX.true in omega arith) in
-    may_run f good g.H.Holder.tells v c.args.part c.args.level c.requires.may c.step-log2.result c.step-log2.ensures high c.run-count.result c.run-count.ensures
+    may_run f good g.H.Holder.tells v c.args.part c.args.level c.requires.may c.step-log2.result c.step-log2.ensures high c.word_run-run.result.blocks (run_fewer f good c.args.part c.requires.may.at.part c.run-count.result c.word_run-run.result.blocks c.run-count.ensures c.word_run-run.ensures.some c.word_run-run.ensures.few)
 
-pub fill_first-write_run-requires-clause-run : goal.fill_first-write_run-requires-clause-run
-fill_first-write_run-requires-clause-run g t c =
+pub fill_first-write_run-requires-clause-tiled : goal.fill_first-write_run-requires-clause-tiled
+fill_first-write_run-requires-clause-tiled g t c =
     let f = g.F.Format.layout in
     let good = g.met.F.Format.lawful_layout in
     let v : View = g.H.Holder.view c.args.holder.now in
     let e : c.INDEX.result * c.args.level ≡ f.index * c.args.level = ap (λ (k : ℕ). k * c.args.level) (c.INDEX.ensures ∙ sym g.met.F.Format.has_constants.index_is) in
     let high : f.index * c.args.level ≤ c.step-log2.result = (let t = c.if-log2-INDEX.true in omega arith) in
-    run_is_tiles f good g.H.Holder.tells v c.args.part c.args.level c.requires.may c.step-log2.result c.step-log2.ensures high c.run-count.result c.run-count.ensures
+    run_is_tiles f good g.H.Holder.tells v c.args.part c.args.level c.requires.may c.step-log2.result c.step-log2.ensures high c.word_run-run.result.blocks (run_fewer f good c.args.part c.requires.may.at.part c.run-count.result c.word_run-run.result.blocks c.run-count.ensures c.word_run-run.ensures.some c.word_run-run.ensures.few)
 
 pub fill_first-write_run-requires-clause-here : goal.fill_first-write_run-requires-clause-here
 fill_first-write_run-requires-clause-here g t c =
@@ -185,7 +194,7 @@ fill_first-write_run-requires-clause-here g t c =
     let v : View = g.H.Holder.view c.args.holder.now in
     let e : c.INDEX.result * c.args.level ≡ f.index * c.args.level = ap (λ (k : ℕ). k * c.args.level) (c.INDEX.ensures ∙ sym g.met.F.Format.has_constants.index_is) in
     let high : f.index * c.args.level ≤ c.step-log2.result = (let t = c.if-log2-INDEX.true in omega arith) in
-    level_is f good g.H.Holder.tells v c.args.part c.args.level c.requires.may c.step-log2.result c.step-log2.ensures high c.run-count.result c.run-count.ensures
+    level_is f good g.H.Holder.tells v c.args.part c.args.level c.requires.may c.step-log2.result c.step-log2.ensures high c.word_run-run.result.blocks (run_fewer f good c.args.part c.requires.may.at.part c.run-count.result c.word_run-run.result.blocks c.run-count.ensures c.word_run-run.ensures.some c.word_run-run.ensures.few)
 
 pub fill_first-overflow_shl-result : goal.fill_first-overflow_shl-result
 fill_first-overflow_shl-result g t c =
@@ -194,7 +203,9 @@ fill_first-overflow_shl-result g t c =
 
 pub fill_first-overflow_add-result : goal.fill_first-overflow_add-result
 fill_first-overflow_add-result g t c =
-    let fits = run_fits g.F.Format.layout g.met.F.Format.lawful_layout c.args.part c.requires.may.at.part c.run-count.result c.run-count.ensures c.step-log2.result c.step-log2.ensures in omega arith
+    let f = g.F.Format.layout in
+    let good = g.met.F.Format.lawful_layout in
+    let fits = run_fits g.F.Format.layout g.met.F.Format.lawful_layout c.args.part c.requires.may.at.part c.word_run-run.result.blocks (run_fewer f good c.args.part c.requires.may.at.part c.run-count.result c.word_run-run.result.blocks c.run-count.ensures c.word_run-run.ensures.some c.word_run-run.ensures.few) c.step-log2.result c.step-log2.ensures in omega arith
 
 pub fill_first-fill_entry-requires : goal.fill_first-fill_entry-requires
 fill_first-fill_entry-requires g t c κs within =
@@ -221,7 +232,7 @@ fill_first-returns-then-log2-INDEX-clause-to g t c =
     let v : View = g.H.Holder.view c.args.holder.now in
     let e : c.INDEX.result * c.args.level ≡ f.index * c.args.level = ap (λ (k : ℕ). k * c.args.level) (c.INDEX.ensures ∙ sym g.met.F.Format.has_constants.index_is) in
     let high : f.index * c.args.level ≤ c.step-log2.result = (let t = c.if-log2-INDEX.true in omega arith) in
-    to_run f good g.H.Holder.tells v c.args.part c.args.level c.requires.may c.step-log2.result c.step-log2.ensures high c.run-count.result c.run-count.ensures _ refl
+    to_run f good g.H.Holder.tells v c.args.part c.args.level c.requires.may c.step-log2.result c.step-log2.ensures high c.word_run-run.result.blocks (run_fewer f good c.args.part c.requires.may.at.part c.run-count.result c.word_run-run.result.blocks c.run-count.ensures c.word_run-run.ensures.some c.word_run-run.ensures.few) _ refl
 
 pub fill_first-returns-then-log2-INDEX-clause-filled : goal.fill_first-returns-then-log2-INDEX-clause-filled
 fill_first-returns-then-log2-INDEX-clause-filled g t c =
@@ -230,7 +241,7 @@ fill_first-returns-then-log2-INDEX-clause-filled g t c =
     let v : View = g.H.Holder.view c.args.holder.now in
     let e : c.INDEX.result * c.args.level ≡ f.index * c.args.level = ap (λ (k : ℕ). k * c.args.level) (c.INDEX.ensures ∙ sym g.met.F.Format.has_constants.index_is) in
     let high : f.index * c.args.level ≤ c.step-log2.result = (let t = c.if-log2-INDEX.true in omega arith) in
-    filled_run f good g.H.Holder.tells v c.args.part c.args.level c.requires.may c.step-log2.result c.step-log2.ensures high c.run-count.result c.run-count.ensures _ refl (g.H.Holder.view c.write_run.new.holder) c.write_run.ensures.filled
+    filled_run f good g.H.Holder.tells v c.args.part c.args.level c.requires.may c.step-log2.result c.step-log2.ensures high c.word_run-run.result.blocks (run_fewer f good c.args.part c.requires.may.at.part c.run-count.result c.word_run-run.result.blocks c.run-count.ensures c.word_run-run.ensures.some c.word_run-run.ensures.few) _ refl (g.H.Holder.view c.write_run.new.holder) c.write_run.ensures.filled
 
 pub fill_first-returns-then-log2-INDEX-clause-spends : goal.fill_first-returns-then-log2-INDEX-clause-spends
 fill_first-returns-then-log2-INDEX-clause-spends g t c =
@@ -244,7 +255,7 @@ fill_first-returns-then-log2-INDEX-clause-knows g t c =
     let v : View = g.H.Holder.view c.args.holder.now in
     let e : c.INDEX.result * c.args.level ≡ f.index * c.args.level = ap (λ (k : ℕ). k * c.args.level) (c.INDEX.ensures ∙ sym g.met.F.Format.has_constants.index_is) in
     let high : f.index * c.args.level ≤ c.step-log2.result = (let t = c.if-log2-INDEX.true in omega arith) in
-    λ p h. absurd (none_below f good g.H.Holder.tells v c.args.part c.args.level c.requires.may c.step-log2.result c.step-log2.ensures high c.run-count.result c.run-count.ensures _ refl p h)
+    λ p h. absurd (none_below f good g.H.Holder.tells v c.args.part c.args.level c.requires.may c.step-log2.result c.step-log2.ensures high c.word_run-run.result.blocks (run_fewer f good c.args.part c.requires.may.at.part c.run-count.result c.word_run-run.result.blocks c.run-count.ensures c.word_run-run.ensures.some c.word_run-run.ensures.few) _ refl p h)
 
 -- What a lone holder links.
 
@@ -254,11 +265,11 @@ fill_entry-returns-clause-counts g t c = λ a sorted owns.
     let v : View = g.H.Holder.view c.args.holder.now in
     let w : View = g.H.Holder.view c.go_into.new.holder in
     let u : View = g.H.Holder.view c.fill.new.holder in
-    let a_into = c.go_into.ensures.alone a in
+    let a_into = c.go_into.ensures.stays.still_alone a in
     let sum = entry_counts f g.met.F.Format.lawful_layout g.H.Holder.tells (g.H.Holder.alone c.args.holder.now) (g.H.Holder.alone c.go_into.new.holder) v w u c.args.part c.args.level
-    (g.H.Holder.linked c.args.holder.now) (g.H.Holder.linked c.go_into.new.holder) (g.H.Holder.linked c.fill.new.holder) c.go_into.ensures.alone c.requires.may c.requires.entry
+    (g.H.Holder.linked c.args.holder.now) (g.H.Holder.linked c.go_into.new.holder) (g.H.Holder.linked c.fill.new.holder) c.go_into.ensures.stays.still_alone c.requires.may c.requires.entry
     c.go_into.ensures.deeper c.go_into.ensures.counts c.go_into.ensures.owned c.fill.ensures.counts a sorted owns in
-    let left = c.leave.ensures.linked (c.fill.ensures.alone a_into) in
+    let left = c.leave.ensures.linked (c.fill.ensures.stays.still_alone a_into) in
     let tables : length (g.H.Holder.view c.leave.new.self).tables ≡ length u.tables = ap (λ (z : View). length z.tables) c.leave.ensures.left in
     omega arith
 
@@ -270,11 +281,11 @@ fill_first-returns-then-log2-INDEX-clause-counts g t c =
     let w : View = g.H.Holder.view c.write_run.new.holder in
     let e : c.INDEX.result * c.args.level ≡ f.index * c.args.level = ap (λ (k : ℕ). k * c.args.level) (c.INDEX.ensures ∙ sym g.met.F.Format.has_constants.index_is) in
     let high : f.index * c.args.level ≤ c.step-log2.result = (let t = c.if-log2-INDEX.true in omega arith) in
-    let to : ℕ = c.args.part.first + c.run-count.result * 2 ^ c.step-log2.result % 2 ^ 64 in
+    let to : ℕ = c.args.part.first + c.word_run-run.result.blocks * 2 ^ c.step-log2.result % 2 ^ 64 in
     run_counts f good g.H.Holder.tells (g.H.Holder.alone c.args.holder.now) v w c.args.part c.args.level to (g.H.Holder.linked c.args.holder.now) (g.H.Holder.linked c.write_run.new.holder) c.requires.may
-    (to_run f good g.H.Holder.tells v c.args.part c.args.level c.requires.may c.step-log2.result c.step-log2.ensures high c.run-count.result c.run-count.ensures to refl)
-    (none_below f good g.H.Holder.tells v c.args.part c.args.level c.requires.may c.step-log2.result c.step-log2.ensures high c.run-count.result c.run-count.ensures to refl)
-    (filled_run f good g.H.Holder.tells v c.args.part c.args.level c.requires.may c.step-log2.result c.step-log2.ensures high c.run-count.result c.run-count.ensures to refl w c.write_run.ensures.filled)
+    (to_run f good g.H.Holder.tells v c.args.part c.args.level c.requires.may c.step-log2.result c.step-log2.ensures high c.word_run-run.result.blocks (run_fewer f good c.args.part c.requires.may.at.part c.run-count.result c.word_run-run.result.blocks c.run-count.ensures c.word_run-run.ensures.some c.word_run-run.ensures.few) to refl)
+    (none_below f good g.H.Holder.tells v c.args.part c.args.level c.requires.may c.step-log2.result c.step-log2.ensures high c.word_run-run.result.blocks (run_fewer f good c.args.part c.requires.may.at.part c.run-count.result c.word_run-run.result.blocks c.run-count.ensures c.word_run-run.ensures.some c.word_run-run.ensures.few) to refl)
+    (filled_run f good g.H.Holder.tells v c.args.part c.args.level c.requires.may c.step-log2.result c.step-log2.ensures high c.word_run-run.result.blocks (run_fewer f good c.args.part c.requires.may.at.part c.run-count.result c.word_run-run.result.blocks c.run-count.ensures c.word_run-run.ensures.some c.word_run-run.ensures.few) to refl w c.write_run.ensures.filled)
     c.write_run.ensures.linked
 
 pub fill_first-returns-else-log2-INDEX-clause-counts : goal.fill_first-returns-else-log2-INDEX-clause-counts

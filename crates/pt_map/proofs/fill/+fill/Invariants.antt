@@ -5,6 +5,7 @@ use Rattle.pt_model.specs.Tables.{all_needed}
 use Rattle.pt_view.specs.Lists.{IsAmong}
 use Rattle.pt_map.specs.Parts.{needs_below, tiles}
 use Rattle.pt_map.specs.Filled.{CountsTables, Filled, HasRoom, MayFill, Spends}
+use Rattle.pt_view.specs.Views.{Stays}
 use Rattle.pt_map.proofs.fill.+fill.Given as goal
 
 abbrev pub decreases-fill : goal.decreases-fill
@@ -18,9 +19,7 @@ decreases-fill_entry g l = 3 * l.level
 
 abbrev pub invariant-fill-loop-rest : goal.invariant-fill-loop-rest
 invariant-fill-loop-rest g l = record {
-  space : g.H.Holder.space l.holder ≡ g.H.Holder.space l.fn.holder;
-  aside : g.H.Holder.aside l.holder ≡ g.H.Holder.aside l.fn.holder;
-  alone : g.H.Holder.alone l.fn.holder → g.H.Holder.alone l.holder;
+  stays : Stays g.H.Holder.space g.H.Holder.aside g.H.Holder.alone l.fn.holder l.holder;
   linked : g.H.Holder.alone l.fn.holder → g.H.Holder.linked l.holder + length (g.H.Holder.view l.holder).purse ≡ g.H.Holder.linked l.fn.holder + length (g.H.Holder.view l.fn.holder).purse;
   within : l.rest.first ≤ l.rest.end;
   done : List Block;

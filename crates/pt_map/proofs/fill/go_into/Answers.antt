@@ -45,9 +45,7 @@ returns-in-Leaf g c =
     let n = c.entry_number-number in
     let is = entered f l g.H.Holder.tells v c.args.page c.args.level c.requires.may (g.H.Holder.alone c.args.holder.now) n.result n.ensures.number c.enter.result w went c.in-Leaf.is in
     record {
-      space = c.enter.ensures.space;
-      aside = c.enter.ensures.aside;
-      alone = c.enter.ensures.alone;
+      stays = c.enter.ensures.stays;
       linked = λ alone. (λ i. c.enter.ensures.linked alone i + length (went.purse.purse i));
       deeper = deeper_entered f l g.H.Holder.tells v c.args.page c.args.level c.requires.may (g.H.Holder.alone c.args.holder.now) n.result n.ensures.number c.enter.result w went is;
       counts = λ alone sorted off. (λ i. c.enter.ensures.linked alone i + length (sym went.book.tables i));
@@ -61,7 +59,7 @@ returns-in-Empty-clause-counts g c = λ a sorted off.
     let entered = c.enter.ensures.linked a in
     let fresh = next_fresh g.F.Format.layout g.met.F.Format.lawful_layout g.H.Holder.tells (g.H.Holder.view c.args.holder.now) c.args.page c.args.level c.requires.may
     (g.H.Holder.alone c.args.holder.now) c.entry_number-number.result c.entry_number-number.ensures.number c.enter.result (g.H.Holder.view c.enter.new.self) c.enter.ensures.went c.in-Empty.is in
-    let sum = c.link.ensures.counts (c.enter.ensures.alone a) fresh (ap (λ (l : ℕ). is_spine l (next_table g.F.Format.layout c.args.page c.args.level)) went.range.levels ∙ off) in
+    let sum = c.link.ensures.counts (c.enter.ensures.stays.still_alone a) fresh (ap (λ (l : ℕ). is_spine l (next_table g.F.Format.layout c.args.page c.args.level)) went.range.levels ∙ off) in
     let same : length (g.H.Holder.view c.enter.new.self).tables ≡ length (g.H.Holder.view c.args.holder.now).tables = ap (λ (ps : List Position). length ps) went.book.tables in
     omega arith
 

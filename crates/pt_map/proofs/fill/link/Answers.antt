@@ -64,7 +64,7 @@ returns-in-Yes-clause-counts g c = λ a fresh off.
     c.install.result (g.H.Holder.view c.install.new.self) c.install.ensures.installed fresh off in
     let one : links c.install.result ≡ 1 = ap links c.in-Yes.is in
     let placed = c.place.ensures.linked a in
-    let linked = c.install.ensures.linked (c.place.ensures.alone a) in
+    let linked = c.install.ensures.linked (c.place.ensures.stays.still_alone a) in
     omega arith
 
 pub returns-in-Yes-clause-owned : goal.returns-in-Yes-clause-owned
@@ -78,7 +78,7 @@ returns-in-Met-clause-counts g c = λ a fresh off. absurd (
     meets_none g.F.Format.layout g.met.F.Format.lawful_layout g.H.Holder.tells (g.H.Holder.view c.args.holder.now) c.args.page c.args.level c.requires.may
     (g.H.Holder.view c.place.new.self) c.align_down.result (base_is g (goal.at.returns-in-Met-clause-counts g c).After-align_down) c.place.ensures.placed c.args.number c.requires.number
     c.install.result (g.H.Holder.view c.install.new.self) c.install.ensures.installed
-    (g.H.Holder.alone c.place.new.self) (c.place.ensures.alone a) c.install.ensures.met c.in-Met.is fresh off)
+    (g.H.Holder.alone c.place.new.self) (c.place.ensures.stays.still_alone a) c.install.ensures.met c.in-Met.is fresh off)
 
 pub returns-in-Met-clause-owned : goal.returns-in-Met-clause-owned
 returns-in-Met-clause-owned g c =

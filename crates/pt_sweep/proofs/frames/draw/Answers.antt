@@ -3,15 +3,14 @@ use mathlib.Core.Logic.{dite}
 use native.Mathlib.Decide.{ℕ_discrete}
 use Rattle.pt_view.specs.declared.view.View.{View}
 use Rattle.pt_sweep.proofs.Drawn.{fall_wider, gains_one, gains_more, keeps_here, keeps_on, place_here, place_on, order_more, told_none, told_more}
+use Rattle.pt_view.proofs.Stays.{stays_here, stays_on}
 use Rattle.pt_sweep.proofs.frames.draw.Goals as goal
 
 pub loop-frame-init : goal.loop-frame-init
 loop-frame-init g c =
     let v : View = g.H.Holder.view c.args.holder.now in
     record {
-      space = refl;
-      aside = refl;
-      alone = λ a. a;
+      stays = stays_here;
       linked = λ a. refl;
       keeps = keeps_here v;
       place = place_here v;
@@ -40,10 +39,8 @@ loop-frame-preserved g c =
     let most = i.most in
     let one = t.one in
     record {
-      space = t.space ∙ i.space;
-      aside = t.aside ∙ i.aside;
-      alone = λ a. t.alone (i.alone a);
-      linked = λ a. t.linked (i.alone a) ∙ i.linked a;
+      stays = stays_on i.stays t.stays;
+      linked = λ a. t.linked (i.stays.still_alone a) ∙ i.linked a;
       keeps = keeps_on u v w i.keeps t.keeps;
       place = place_on u v w i.place t.place;
       rest = λ rests. t.rest (i.rest rests);
@@ -55,7 +52,7 @@ loop-frame-preserved g c =
       stores = λ told. t.stores told ∙ i.stores told;
       every = λ x less. (t.busy x).1 (dite (ℕ_discrete x c.loop-frame.frame) (λ e. inl e) (λ ne. inr (i.every x (omega arith))));
       told = λ told. told_more tells frame won u v w one t.takes told (i.told told);
-      all = λ a some every. t.all (i.alone a) every;
+      all = λ a some every. t.all (i.stays.still_alone a) every;
     }
 
 pub returns-then-taken-count-clause-order : goal.returns-then-taken-count-clause-order

@@ -5,6 +5,7 @@ use Rattle.pt_view.specs.Calls.{HasEveryFrame, held_count}
 use Rattle.pt_walk.specs.Walks.{Rests}
 use Rattle.pt_sweep.specs.Draws.{Gains, GainsInOrder, KeepsBook, SamePlace}
 use Rattle.pt_sweep.proofs.Drawn.{Told}
+use Rattle.pt_view.specs.Views.{Stays}
 use Rattle.pt_sweep.proofs.frames.draw.Given as goal
 
 abbrev pub invariant-loop-frame : goal.invariant-loop-frame
@@ -12,9 +13,7 @@ invariant-loop-frame g l =
     let v : View = g.H.Holder.view l.initial.holder in
     let w : View = g.H.Holder.view l.holder in
     record {
-      space : g.H.Holder.space l.holder ≡ g.H.Holder.space l.initial.holder;
-      aside : g.H.Holder.aside l.holder ≡ g.H.Holder.aside l.initial.holder;
-      alone : g.H.Holder.alone l.initial.holder → g.H.Holder.alone l.holder;
+      stays : Stays g.H.Holder.space g.H.Holder.aside g.H.Holder.alone l.initial.holder l.holder;
       linked : g.H.Holder.alone l.initial.holder → g.H.Holder.linked l.holder ≡ g.H.Holder.linked l.initial.holder;
       keeps : KeepsBook v w;
       place : SamePlace v w;

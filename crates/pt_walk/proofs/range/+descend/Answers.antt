@@ -17,7 +17,7 @@ descend-requires g t c κs within =
     let f = g.F.Format.layout in
     let v : View = g.H.Holder.view c.args.holder.now in
     let w : View = g.H.Holder.view c.enter.new.self in
-    let one : c.args.end ≤ (c.args.first / pages_of_entry f c.args.level + 1) * pages_of_entry f c.args.level = (let a = c.if-end-entry_end.true in let b = c.entry_end.ensures in omega arith) in
+    let one : c.args.end ≤ (c.args.first / pages_of_entry f c.args.level + 1) * pages_of_entry f c.args.level = c.lies_under.ensures c.if-lies_under.true in
     let go : IsOverRange f w c.args.first c.args.end (c.args.level - 1) =
     range_below f g.met.F.Format.lawful_layout g.H.Holder.tells (g.H.Holder.alone c.args.holder.now) v c.args.first c.args.end c.args.level
     c.requires.range one c.entry_number.result c.entry_number.ensures.number c.enter.result w c.enter.ensures.went c.in-Entered.is in
@@ -49,7 +49,7 @@ returns-in-Entered-clause-clear g t c = λ owns clear.
     let f = g.F.Format.layout in
     let v : View = g.H.Holder.view c.args.holder.now in
     let w : View = g.H.Holder.view c.enter.new.self in
-    let one : c.args.end ≤ (c.args.first / pages_of_entry f c.args.level + 1) * pages_of_entry f c.args.level = (let a = c.if-end-entry_end.true in let b = c.entry_end.ensures in omega arith) in
+    let one : c.args.end ≤ (c.args.first / pages_of_entry f c.args.level + 1) * pages_of_entry f c.args.level = c.lies_under.ensures c.if-lies_under.true in
     c.descend.ensures.clear (owns_on f v w c.enter.ensures.went.range c.enter.ensures.went.book owns)
     (clear_below f g.met.F.Format.lawful_layout g.H.Holder.tells (g.H.Holder.alone c.args.holder.now) v c.args.first c.args.end c.args.level
     c.requires.range one c.entry_number.result c.entry_number.ensures.number c.enter.result w c.enter.ensures.went c.in-Entered.is owns clear)
@@ -64,7 +64,7 @@ returns-in-Entered-clause-owned g t c = λ a.
     (entered_owned f g.H.Holder.tells (g.H.Holder.alone c.args.holder.now) v c.args.first c.args.level
     c.requires.range.over (range_inside f v c.args.first c.args.end c.args.level c.requires.range)
     c.entry_number.result c.entry_number.ensures.number c.enter.result w went c.in-Entered.is a)
-    (c.descend.ensures.owned (c.enter.ensures.alone a))
+    (c.descend.ensures.owned (c.enter.ensures.stays.still_alone a))
 
 pub returns-in_default : goal.returns-in_default
 returns-in_default g t c =
@@ -77,9 +77,7 @@ returns-in_default g t c =
     r.over (range_inside f v c.args.first c.args.end c.args.level r)
     c.entry_number.result c.entry_number.ensures.number c.enter.result w e.went c.in_default.not-Entered in
     record {
-      space = e.space;
-      aside = e.aside;
-      alone = e.alone;
+      stays = e.stays;
       linked = e.linked;
       walked = s.0;
       range = range_from f v w c.args.first c.args.end c.args.first c.args.end c.args.level e.went.range s.1 r (omega arith) r.some (omega arith);

@@ -5,6 +5,7 @@ use Rattle.pt_walk.specs.Walks.{IsOverRange, OwnsAll}
 use Rattle.pt_walk.proofs.Loads.{back_path, back_walked, empty_path, empty_walked, entered_high, leaf_path, leaf_walked, some_path, walked_on}
 use Rattle.pt_walk.proofs.Descent.{owns_on}
 use Rattle.pt_walk.proofs.Ranges.{answer_on, clear_below, clear_from, clear_on, found_more, free_here, lowest_here, none_more, next_stop, range_below, range_enters, range_from, range_inside}
+use Rattle.pt_view.proofs.Stays.{stays_on}
 use Rattle.pt_walk.proofs.range.+first_below.Goals as goal
 
 pub first_at-enter-requires : goal.first_at-enter-requires
@@ -138,10 +139,8 @@ first_below-loop-at-preserved g t c =
     record {
       from = (let a = stop.0 in let b = i.from in omega arith);
       to = stop.1;
-      space = e.space ∙ i.space;
-      aside = e.aside ∙ i.aside;
-      alone = λ a. e.alone (i.alone a);
-      linked = λ a. e.linked (i.alone a) ∙ i.linked a;
+      stays = stays_on i.stays e.stays;
+      linked = λ a. e.linked (i.stays.still_alone a) ∙ i.linked a;
       walked = walked_on g.H.Holder.tells v w (g.H.Holder.view c.first_at-mapped.new.holder) i.walked e.walked;
       path = e.path ∙ i.path;
       free = λ clear. none_more f v w c.args.first c.args.end c.loop-at.at c.min-next.result i.walked.book i.from stop.1 (i.free clear) c.first_at-mapped.result (sym c.is_some.ensures ∙ c.if-is_some.false)

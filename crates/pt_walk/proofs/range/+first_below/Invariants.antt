@@ -1,6 +1,7 @@
 use Rattle.std.proofs.Common.{◌≡◌, ◌+◌, ◌-◌, ◌*◌, ◌≤◌}
 use Rattle.pt_view.specs.declared.view.View.{View}
 use Rattle.pt_walk.specs.Walks.{IsClear, IsFree, Walked}
+use Rattle.pt_view.specs.Views.{Stays}
 use Rattle.pt_walk.proofs.range.+first_below.Given as goal
 
 abbrev pub decreases-first_below : goal.decreases-first_below
@@ -17,9 +18,7 @@ invariant-first_below-loop-at g l =
     record {
       from : l.first ≤ l.at;
       to : l.at ≤ l.end;
-      space : g.H.Holder.space l.holder ≡ g.H.Holder.space l.initial.holder;
-      aside : g.H.Holder.aside l.holder ≡ g.H.Holder.aside l.initial.holder;
-      alone : g.H.Holder.alone l.initial.holder → g.H.Holder.alone l.holder;
+      stays : Stays g.H.Holder.space g.H.Holder.aside g.H.Holder.alone l.initial.holder l.holder;
       linked : g.H.Holder.alone l.initial.holder → g.H.Holder.linked l.holder ≡ g.H.Holder.linked l.initial.holder;
       walked : Walked g.H.Holder.tells v w;
       path : w.path ≡ v.path;

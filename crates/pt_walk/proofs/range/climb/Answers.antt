@@ -2,6 +2,7 @@ use Rattle.std.proofs.Common.{◌≡◌, ap, ◌∙◌, arith}
 use Rattle.std.specs.Prelude.{length}
 use Rattle.pt_view.specs.declared.view.View.{View}
 use Rattle.pt_walk.proofs.Climbs.{climbed, length_up, up, up_more}
+use Rattle.pt_view.proofs.Stays.{stays_on}
 use Rattle.pt_walk.proofs.range.climb.Goals as goal
 
 pub leave-requires : goal.leave-requires
@@ -17,10 +18,8 @@ loop-left-preserved g c =
     let i = c.loop-left.invariant in
     let e = c.leave.ensures in
     record {
-      space = e.space ∙ i.space;
-      aside = e.aside ∙ i.aside;
-      alone = λ a. e.alone (i.alone a);
-      linked = λ a. e.linked (i.alone a) ∙ i.linked a;
+      stays = stays_on i.stays e.stays;
+      linked = λ a. e.linked (i.stays.still_alone a) ∙ i.linked a;
       left = up_more v (g.H.Holder.view c.loop-left.holder) (g.H.Holder.view c.leave.new.self) c.loop-left._left v.path i.left e.left;
     }
 

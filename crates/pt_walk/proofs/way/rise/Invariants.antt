@@ -3,6 +3,7 @@ use Rattle.std.specs.Prelude.{length}
 use Rattle.pt_view.specs.declared.view.View.{View}
 use Rattle.pt_walk.specs.Walks.{Walked}
 use Rattle.pt_walk.specs.Ways.{IsOnWay}
+use Rattle.pt_view.specs.Views.{Stays}
 use Rattle.pt_walk.proofs.way.rise.Given as goal
 
 abbrev pub invariant-loop-way : goal.invariant-loop-way
@@ -10,9 +11,7 @@ invariant-loop-way g l =
     let v : View = g.H.Holder.view l.initial.holder in
     let w : View = g.H.Holder.view l.holder in
     record {
-      space : g.H.Holder.space l.holder ≡ g.H.Holder.space l.initial.holder;
-      aside : g.H.Holder.aside l.holder ≡ g.H.Holder.aside l.initial.holder;
-      alone : g.H.Holder.alone l.initial.holder → g.H.Holder.alone l.holder;
+      stays : Stays g.H.Holder.space g.H.Holder.aside g.H.Holder.alone l.initial.holder l.holder;
       linked : g.H.Holder.alone l.initial.holder → g.H.Holder.linked l.holder ≡ g.H.Holder.linked l.initial.holder;
       walked : Walked g.H.Holder.tells v w;
       way : IsOnWay g.F.Format.layout w l.way;

@@ -109,4 +109,4 @@ pub unplace-requires : goal.unplace-requires
 unplace-requires g c =
     let same : c.install-second.new.self.view.prepared ≡ c.place-2.new.self.view.prepared =
     subst (λ (won : Won). Prepares won c.place-2.new.self.view c.install-second.new.self.view) c.in-Met.is c.install-second.ensures.installed.prepares in
-    (_, ap (λ (u : View). u.prepared) c.leave-2.ensures.left ∙ same ∙ c.place-2.ensures.placed.purse.2)
+    (_, ap (λ (u : View). u.prepared) c.leave-2.ensures.left ∙ same ∙ c.place-2.ensures.placed.purse.2, refl)

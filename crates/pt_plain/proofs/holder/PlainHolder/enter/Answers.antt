@@ -30,7 +30,7 @@ pub entry-word-requires-clause-a_frame : goal.entry-word-requires-clause-a_frame
 entry-word-requires-clause-a_frame g c =
     let o = c.self.inside in
     let law = g.met.F.Format in
-    enter.within g.F.Format.layout law.lawful_layout law.words_differ law.steps_agree o.frames o.levels o.words.items o.head o.held o.path o.level o.prepared c.self.invariant c.args.number (may g c)
+    enter.within law.lawful_layout law.words_differ law.steps_agree c.self.invariant c.args.number (may g c)
 
 pub returns-then-word-eq0-clause-went : goal.returns-then-word-eq0-clause-went
 returns-then-word-eq0-clause-went g c =
@@ -40,7 +40,7 @@ returns-then-word-eq0-clause-went g c =
     let law = g.met.F.Format in
     let zero : found g d ≡ 0 = sym (c.entry-word.ensures ∙ ap (λ (ws : List ℕ). entry_of f o.frames ws (slice_index o.path o.level) c.args.number) c.deref.ensures.value) ∙ c.if-word-eq0.true in
     subst (λ (x : Owned). Went f ⊥ (Unit {0}) c.args.number x.view Empty x.view) c.self.view_is
-    (enter.finds_zero f law.lawful_layout law.words_differ law.steps_agree o.frames o.levels o.words.items o.head o.held o.path o.level o.prepared c.self.invariant c.args.number (may g d) zero)
+    (enter.finds_zero law.lawful_layout law.words_differ law.steps_agree c.self.invariant c.args.number (may g d) zero)
 
 -- the word that was loaded is the entry's
 loaded : (g : Over) (c : Else-word-eq0 g) → c.entry-word.result ≡ found g (goal.at.Else-word-eq0 g c).After-deref
@@ -53,7 +53,7 @@ is_leaf-requires-clause-below g c =
     let d = (goal.at.is_leaf-requires-clause-below g c).After-deref in
     let o = c.self.inside in
     let law = g.met.F.Format in
-    enter.below g.F.Format.layout law.lawful_layout law.words_differ law.steps_agree o.frames o.levels o.words.items o.head o.held o.path o.level o.prepared c.self.invariant c.args.number (may g d)
+    enter.below law.lawful_layout law.words_differ law.steps_agree c.self.invariant c.args.number (may g d)
 
 pub is_leaf-requires-clause-written : goal.is_leaf-requires-clause-written
 is_leaf-requires-clause-written g c =
@@ -62,7 +62,7 @@ is_leaf-requires-clause-written g c =
     let f = g.F.Format.layout in
     let law = g.met.F.Format in
     subst (IsWritten f o.level) (sym (loaded g c))
-    (enter.written f law.lawful_layout law.words_differ law.steps_agree o.frames o.levels o.words.items o.head o.held o.path o.level o.prepared c.self.invariant c.args.number (may g d)
+    (enter.written law.lawful_layout law.words_differ law.steps_agree c.self.invariant c.args.number (may g d)
     (λ z. c.if-word-eq0.false (loaded g c ∙ z)))
 
 pub returns-then-is_leaf-clause-went : goal.returns-then-is_leaf-clause-went
@@ -75,7 +75,7 @@ returns-then-is_leaf-clause-went g c =
     let leaf : (log2 : ℕ) × (prot : Prot) × IsLeaf f o.level c.entry-word.result log2 prot = c.is_leaf.ensures.leaf c.if-is_leaf.true in
     subst (λ (x : Owned). Went f ⊥ (Unit {0}) c.args.number x.view (Leaf c.entry-word.result) x.view) c.self.view_is
     (subst (λ (word : ℕ). Went f ⊥ (Unit {0}) c.args.number (view_of g d) (Leaf word) (view_of g d)) (sym (loaded g e))
-    (enter.finds_leaf f law.lawful_layout law.words_differ law.steps_agree o.frames o.levels o.words.items o.head o.held o.path o.level o.prepared c.self.invariant c.args.number (may g d)
+    (enter.finds_leaf law.lawful_layout law.words_differ law.steps_agree c.self.invariant c.args.number (may g d)
     leaf.0 leaf.1 (subst (λ (word : ℕ). IsLeaf f o.level word leaf.0 leaf.1) (loaded g e) leaf.2)))
 
 -- A pointer was found.
@@ -101,7 +101,7 @@ module _ (g : Over) (c : After-frame_named g) where
       let f = g.F.Format.layout in
       let law = g.met.F.Format in
       subst (λ (child : ℕ). IsOwner f o.frames o.levels o.words.items o.head o.held (slice_set o.path (o.level - 1) child) (o.level - 1) o.prepared) named
-      (enter.enters_owner f law.lawful_layout law.words_differ law.steps_agree o.frames o.levels o.words.items o.head o.held o.path o.level o.prepared c.self.invariant c.args.number (may g start) pointer.0 read)
+      (enter.enters_owner law.lawful_layout law.words_differ law.steps_agree c.self.invariant c.args.number (may g start) pointer.0 read)
 
   went_now : (let o = c.self.inside in Went g.F.Format.layout ⊥ (Unit {0}) c.args.number (view_of g start) Entered
       (owner_view g.F.Format.layout o.frames o.levels o.words.items o.head o.held (slice_set o.path (o.level - 1) c.frame_named.result) (o.level - 1) o.prepared))
@@ -110,7 +110,7 @@ module _ (g : Over) (c : After-frame_named g) where
       let f = g.F.Format.layout in
       let law = g.met.F.Format in
       subst (λ (child : ℕ). Went f ⊥ (Unit {0}) c.args.number (view_of g start) Entered (owner_view f o.frames o.levels o.words.items o.head o.held (slice_set o.path (o.level - 1) child) (o.level - 1) o.prepared)) named
-      (enter.finds_table f law.lawful_layout law.words_differ law.steps_agree o.frames o.levels o.words.items o.head o.held o.path o.level o.prepared c.self.invariant c.args.number (may g start) pointer.0 read)
+      (enter.finds_table law.lawful_layout law.words_differ law.steps_agree c.self.invariant c.args.number (may g start) pointer.0 read)
 
 pub invariant_of-self : goal.invariant_of-self
 invariant_of-self g c = owner_now g (goal.at.invariant_of-self g c).After-frame_named

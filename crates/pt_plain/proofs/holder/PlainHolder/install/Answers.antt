@@ -1,4 +1,4 @@
-use Rattle.std.proofs.Common.{◌≡◌, ◌≢◌, ℕ, ◌+◌, ◌-◌, ◌<◌, ◌≤◌, List, length, ap, sym, ◌∙◌, subst, arith, take, drop, ◌++◌}
+use Rattle.std.proofs.Common.{◌≡◌, ◌≢◌, ℕ, ◌+◌, ◌-◌, ◌<◌, ◌≤◌, List, length, refl, ap, sym, ◌∙◌, subst, arith, take, drop, ◌++◌}
 use Rattle.std.specs.Prelude.{None, slice_index, slice_set}
 use Rattle.pt_model.specs.Words.{entry_of, entry_place, frame_address, frame_named}
 use Rattle.pt_format.specs.Words.{IsPointer, IsTableAddress}
@@ -30,13 +30,13 @@ module _ (g : Over) (c : After-deref g) where
   within =
       let o = c.self.inside in
       let law = g.met.F.Format in
-      stores.install_within g.F.Format.layout law.lawful_layout law.words_differ law.steps_agree o.frames o.levels o.words.items o.head o.held o.path o.level o.prepared c.self.invariant c.args.number may
+      stores.install_within law.lawful_layout law.words_differ law.steps_agree c.self.invariant c.args.number may
 
   above : 1 ≤ c.self.inside.level
   above =
       let o = c.self.inside in
       let law = g.met.F.Format in
-      let high = stores.high g.F.Format.layout law.lawful_layout law.words_differ law.steps_agree o.frames o.levels o.words.items o.head o.held o.path o.level o.prepared c.self.invariant c.args.number may in omega arith
+      let high = stores.high law.lawful_layout law.words_differ law.steps_agree c.self.invariant c.args.number may in omega arith
 
 pub entry-found-requires-clause-a_frame : goal.entry-found-requires-clause-a_frame
 entry-found-requires-clause-a_frame g c = within g c
@@ -58,14 +58,14 @@ module _ (g : Over) (c : Then-found-ne0 g) where
   child =
       let o = c.self.inside in
       let law = g.met.F.Format in
-      (stores.met g.F.Format.layout law.lawful_layout law.words_differ law.steps_agree o.frames o.levels o.words.items o.head o.held o.path o.level o.prepared c.self.invariant c.args.number (may g met_start) nonzero).0
+      (stores.met law.lawful_layout law.words_differ law.steps_agree c.self.invariant c.args.number (may g met_start) nonzero).0
 
   named : IsPointer g.F.Format.layout c.self.inside.level c.entry-found.result (frame_address g.F.Format.layout child)
   named =
       let o = c.self.inside in
       let law = g.met.F.Format in
       subst (λ (x : ℕ). IsPointer g.F.Format.layout o.level x (frame_address g.F.Format.layout child)) (sym met_word)
-      (stores.met_pointer g.F.Format.layout law.lawful_layout law.words_differ law.steps_agree o.frames o.levels o.words.items o.head o.held o.path o.level o.prepared c.self.invariant c.args.number (may g met_start) nonzero)
+      (stores.met_pointer law.lawful_layout law.words_differ law.steps_agree c.self.invariant c.args.number (may g met_start) nonzero)
 
 pub address_of-requires : goal.address_of-requires
 address_of-requires g c = record { a_pointer = (frame_address g.F.Format.layout (child g c), named g c) }
@@ -93,8 +93,8 @@ module _ (g : Over) (c : After-frame_named g) where
       let f = g.F.Format.layout in
       let address = frame_address f (child g met_case) in
       sym (c.frame_named.ensures ∙ ap (frame_named f) (c.address_of.ensures address (named g met_case))
-      ∙ stores.met_frame g.F.Format.layout law.lawful_layout law.words_differ law.steps_agree o.frames o.levels o.words.items o.head o.held o.path o.level o.prepared c.self.invariant c.args.number (may g (met_start g met_case)) (nonzero g met_case) address
-      (stores.met_pointer g.F.Format.layout law.lawful_layout law.words_differ law.steps_agree o.frames o.levels o.words.items o.head o.held o.path o.level o.prepared c.self.invariant c.args.number (may g (met_start g met_case)) (nonzero g met_case)))
+      ∙ stores.met_frame law.lawful_layout law.words_differ law.steps_agree c.self.invariant c.args.number (may g (met_start g met_case)) (nonzero g met_case) address
+      (stores.met_pointer law.lawful_layout law.words_differ law.steps_agree c.self.invariant c.args.number (may g (met_start g met_case)) (nonzero g met_case)))
 
 pub invariant_of-self : goal.invariant_of-self
 invariant_of-self g e =
@@ -103,7 +103,7 @@ invariant_of-self g e =
     let law = g.met.F.Format in
     let m = met_case g c in
     subst (λ (x : ℕ). IsOwner g.F.Format.layout o.frames o.levels o.words.items o.head o.held (slice_set o.path (o.level - 1) x) (o.level - 1) o.prepared) (frame_is g c)
-    (stores.met_owner g.F.Format.layout law.lawful_layout law.words_differ law.steps_agree o.frames o.levels o.words.items o.head o.held o.path o.level o.prepared c.self.invariant c.args.number (may g (met_start g m)) (nonzero g m))
+    (stores.met_owner law.lawful_layout law.words_differ law.steps_agree c.self.invariant c.args.number (may g (met_start g m)) (nonzero g m))
 
 pub returns-then-found-ne0-clause-linked : goal.returns-then-found-ne0-clause-linked
 returns-then-found-ne0-clause-linked g e = λ _.
@@ -112,7 +112,7 @@ returns-then-found-ne0-clause-linked g e = λ _.
     let law = g.met.F.Format in
     let m = met_case g c in
     subst (λ (x : ℕ). linked_of (owner_view g.F.Format.layout o.frames o.levels o.words.items o.head o.held (slice_set o.path (o.level - 1) x) (o.level - 1) o.prepared) ≡ linked_of (view g (met_start g m)) + 0) (frame_is g c)
-    (stores.met_linked g.F.Format.layout law.lawful_layout law.words_differ law.steps_agree o.frames o.levels o.words.items o.head o.held o.path o.level o.prepared c.self.invariant c.args.number (may g (met_start g m)) (nonzero g m))
+    (stores.met_linked law.lawful_layout law.words_differ law.steps_agree c.self.invariant c.args.number (may g (met_start g m)) (nonzero g m))
     ∙ ap (λ (x : Owned). linked_of x.view + 0) c.self.view_is
 
 pub returns-then-found-ne0-clause-installed : goal.returns-then-found-ne0-clause-installed
@@ -124,7 +124,7 @@ returns-then-found-ne0-clause-installed g e =
     let f = g.F.Format.layout in
     subst (λ (x : Owned). IsInstalled f ⊥ c.args.number x.view Met (owner_view f o.frames o.levels o.words.items o.head o.held (slice_set o.path (o.level - 1) c.frame_named.result) (o.level - 1) o.prepared)) c.self.view_is
     (subst (λ (x : ℕ). IsInstalled f ⊥ c.args.number (view g (met_start g m)) Met (owner_view f o.frames o.levels o.words.items o.head o.held (slice_set o.path (o.level - 1) x) (o.level - 1) o.prepared)) (frame_is g c)
-    (stores.met_installed g.F.Format.layout law.lawful_layout law.words_differ law.steps_agree o.frames o.levels o.words.items o.head o.held o.path o.level o.prepared c.self.invariant c.args.number (may g (met_start g m)) (nonzero g m)))
+    (stores.met_installed law.lawful_layout law.words_differ law.steps_agree c.self.invariant c.args.number (may g (met_start g m)) (nonzero g m)))
 
 pub returns-then-found-ne0-clause-met : goal.returns-then-found-ne0-clause-met
 returns-then-found-ne0-clause-met g e = λ _.
@@ -133,7 +133,7 @@ returns-then-found-ne0-clause-met g e = λ _.
     let law = g.met.F.Format in
     let m = met_case g c in
     subst (λ (x : Owned). MeetsOwn g.F.Format.layout c.args.number x.view Met) c.self.view_is
-    (stores.met_own g.F.Format.layout law.lawful_layout law.words_differ law.steps_agree o.frames o.levels o.words.items o.head o.held o.path o.level o.prepared c.self.invariant c.args.number (may g (met_start g m)) (nonzero g m))
+    (stores.met_own law.lawful_layout law.words_differ law.steps_agree c.self.invariant c.args.number (may g (met_start g m)) (nonzero g m))
 
 -- The prepared frame is linked there.
 
@@ -142,7 +142,7 @@ unreachable-requires g c =
     let d = (goal.at.unreachable-requires g c).After-deref in
     let o = c.self.inside in
     let law = g.met.F.Format in
-    tags.some_prepared g.F.Format.layout law.lawful_layout law.words_differ law.steps_agree o.frames o.levels o.words.items o.head o.held o.path o.level o.prepared c.self.invariant (_, (may g d).prepared) c.in_default.is
+    tags.some_prepared law.lawful_layout law.words_differ law.steps_agree c.self.invariant (_, (may g d).prepared, refl) c.in_default.is
 
 module _ (g : Over) (c : In-Some g) where
   abbrev start : After-deref g
@@ -157,7 +157,7 @@ pub frame_address-requires : goal.frame_address-requires
 frame_address-requires g c =
     let o = c.self.inside in
     let law = g.met.F.Format in
-    let lt = tags.prepared_within g.F.Format.layout law.lawful_layout law.words_differ law.steps_agree o.frames o.levels o.words.items o.head o.held o.path o.level o.prepared c.self.invariant c.in-Some.frame c.in-Some.is in
+    let lt = tags.prepared_within law.lawful_layout law.words_differ law.steps_agree c.self.invariant c.in-Some.frame c.in-Some.is in
     let limit = c.self.invariant.lawful.sizes.limit in
     omega arith
 
@@ -166,7 +166,7 @@ table_word-word-requires-clause-above g c =
     let d = (goal.at.table_word-word-requires-clause-above g c).After-deref in
     let o = c.self.inside in
     let law = g.met.F.Format in
-    stores.table_level g.F.Format.layout law.lawful_layout law.words_differ law.steps_agree o.frames o.levels o.words.items o.head o.held o.path o.level o.prepared c.self.invariant c.args.number (may g d)
+    stores.table_level law.lawful_layout law.words_differ law.steps_agree c.self.invariant c.args.number (may g d)
 
 pub set_entry-requires-clause-a_frame : goal.set_entry-requires-clause-a_frame
 set_entry-requires-clause-a_frame g c = within g (goal.at.set_entry-requires-clause-a_frame g c).After-deref
@@ -203,7 +203,7 @@ invariant_of-self-2 g e =
     let law = g.met.F.Format in
     let w = won_case g c in
     subst (λ (ws : List ℕ). IsOwner g.F.Format.layout o.frames o.levels ws o.head o.held (slice_set o.path (o.level - 1) c.in-Some.frame) (o.level - 1) None) (sym (words_now g c))
-    (stores.won_owner g.F.Format.layout law.lawful_layout law.words_differ law.steps_agree o.frames o.levels o.words.items o.head o.held o.path o.level o.prepared c.self.invariant c.args.number (may g (start g w)) (empty g w) c.in-Some.frame c.in-Some.is)
+    (stores.won_owner law.lawful_layout law.words_differ law.steps_agree c.self.invariant c.args.number (may g (start g w)) (empty g w) c.in-Some.frame c.in-Some.is)
 
 pub returns-clause-linked : goal.returns-clause-linked
 returns-clause-linked g e = λ _.
@@ -212,7 +212,7 @@ returns-clause-linked g e = λ _.
     let law = g.met.F.Format in
     let w = won_case g c in
     subst (λ (ws : List ℕ). linked_of (now g c ws) ≡ linked_of (view g (start g w)) + 1) (sym (words_now g c))
-    (stores.won_linked g.F.Format.layout law.lawful_layout law.words_differ law.steps_agree o.frames o.levels o.words.items o.head o.held o.path o.level o.prepared c.self.invariant c.args.number (may g (start g w)) (empty g w) c.in-Some.frame c.in-Some.is)
+    (stores.won_linked law.lawful_layout law.words_differ law.steps_agree c.self.invariant c.args.number (may g (start g w)) (empty g w) c.in-Some.frame c.in-Some.is)
     ∙ ap (λ (x : Owned). linked_of x.view + 1) c.self.view_is
 
 pub returns-clause-installed : goal.returns-clause-installed
@@ -224,4 +224,4 @@ returns-clause-installed g e =
     let f = g.F.Format.layout in
     subst (λ (x : Owned). IsInstalled f ⊥ c.args.number x.view Yes (now g c (words' g c))) c.self.view_is
     (subst (λ (ws : List ℕ). IsInstalled f ⊥ c.args.number (view g (start g w)) Yes (now g c ws)) (sym (words_now g c))
-    (stores.won_installed g.F.Format.layout law.lawful_layout law.words_differ law.steps_agree o.frames o.levels o.words.items o.head o.held o.path o.level o.prepared c.self.invariant c.args.number (may g (start g w)) (empty g w) c.in-Some.frame c.in-Some.is))
+    (stores.won_installed law.lawful_layout law.words_differ law.steps_agree c.self.invariant c.args.number (may g (start g w)) (empty g w) c.in-Some.frame c.in-Some.is))

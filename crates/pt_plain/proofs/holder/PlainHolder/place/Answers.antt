@@ -20,7 +20,7 @@ pub unreachable-requires : goal.unreachable-requires
 unreachable-requires g c =
     let o = c.self.inside in
     let law = g.met.F.Format in
-    tags.some_head g.F.Format.layout law.lawful_layout law.words_differ law.steps_agree o.frames o.levels o.words.items o.head o.held o.path o.level o.prepared c.self.invariant
+    tags.some_head law.lawful_layout law.words_differ law.steps_agree c.self.invariant
     (subst (λ (x : Owned). 0 < length x.view.purse) (sym c.self.view_is) c.requires.some) c.in_default.is
 
 module _ (g : Over) (c : After-deref g) where
@@ -28,13 +28,13 @@ module _ (g : Over) (c : After-deref g) where
   within =
       let o = c.self.inside in
       let law = g.met.F.Format in
-      tags.head_within g.F.Format.layout law.lawful_layout law.words_differ law.steps_agree o.frames o.levels o.words.items o.head o.held o.path o.level o.prepared c.self.invariant c.in-Some.frame c.in-Some.is
+      tags.head_within law.lawful_layout law.words_differ law.steps_agree c.self.invariant c.in-Some.frame c.in-Some.is
 
   there : 1 + c.in-Some.frame < length c.self.inside.words.items
   there =
       let o = c.self.inside in
       let law = g.met.F.Format in
-      tags.tag_there g.F.Format.layout law.lawful_layout law.words_differ law.steps_agree o.frames o.levels o.words.items o.head o.held o.path o.level o.prepared c.self.invariant c.in-Some.frame within
+      tags.tag_there law.lawful_layout law.words_differ law.steps_agree c.self.invariant c.in-Some.frame within
 
 pub tag_of-requires : goal.tag_of-requires
 tag_of-requires g c = subst (λ (ws : List ℕ). 1 + c.in-Some.frame < length ws) (sym c.deref.ensures.value) (there g c)
@@ -48,7 +48,7 @@ module _ (g : Over) (c : After-tag_of g) where
       let o = c.self.inside in
       let law = g.met.F.Format in
       subst (λ (word : ℕ). (next : Option ℕ) × (word ≡ held_word next) × IsEnd (2 ^ 32) next) (sym loaded)
-      (tags.next_named g.F.Format.layout law.lawful_layout law.words_differ law.steps_agree o.frames o.levels o.words.items o.head o.held o.path o.level o.prepared c.self.invariant c.in-Some.frame c.in-Some.is)
+      (tags.next_named law.lawful_layout law.words_differ law.steps_agree c.self.invariant c.in-Some.frame c.in-Some.is)
 
 pub next_in-next-requires : goal.next_in-next-requires
 next_in-next-requires g c = names_next g c
@@ -91,14 +91,14 @@ module _ (g : Over) (c : After-set_tag g) where
   rest =
       let o = c.self.inside in
       let law = g.met.F.Format in
-      tags.rest g.F.Format.layout law.lawful_layout law.words_differ law.steps_agree o.frames o.levels o.words.items o.head o.held o.path o.level o.prepared c.self.invariant c.in-Some.frame c.in-Some.is
+      tags.rest law.lawful_layout law.words_differ law.steps_agree c.self.invariant c.in-Some.frame c.in-Some.is
 
   next_is : first_or None rest ≡ c.next_in-next.result
   next_is =
       let o = c.self.inside in
       let law = g.met.F.Format in
       sym (c.next_in-next.ensures (first_or None rest) (loaded g (goal.at.After-set_tag g c).After-tag_of
-      ∙ tags.tag_is g.F.Format.layout law.lawful_layout law.words_differ law.steps_agree o.frames o.levels o.words.items o.head o.held o.path o.level o.prepared c.self.invariant c.in-Some.frame c.in-Some.is))
+      ∙ tags.tag_is law.lawful_layout law.words_differ law.steps_agree c.self.invariant c.in-Some.frame c.in-Some.is))
 
   owner_now : (let o = c.self.inside in IsOwner g.F.Format.layout o.frames o.levels words' c.next_in-next.result (o.held - 1) o.path o.level (Some c.in-Some.frame))
   owner_now =
@@ -107,7 +107,7 @@ module _ (g : Over) (c : After-set_tag g) where
       let law = g.met.F.Format in
       subst (λ (ws : List ℕ). IsOwner f o.frames o.levels ws c.next_in-next.result (o.held - 1) o.path o.level (Some c.in-Some.frame)) (sym words_now)
       (subst (λ (h : Option ℕ). IsOwner f o.frames o.levels (slice_set o.words.items (1 + c.in-Some.frame) (placed_word position)) h (o.held - 1) o.path o.level (Some c.in-Some.frame)) next_is
-      (tags.places_owner f law.lawful_layout law.words_differ law.steps_agree o.frames o.levels o.words.items o.head o.held o.path o.level o.prepared c.self.invariant
+      (tags.places_owner law.lawful_layout law.words_differ law.steps_agree c.self.invariant
       c.in-Some.frame c.in-Some.is none position c.requires.legal))
 
   placed_now : (let o = c.self.inside in IsPlaced ⊥ here position (owner_view g.F.Format.layout o.frames o.levels words' c.next_in-next.result (o.held - 1) o.path o.level (Some c.in-Some.frame)))
@@ -117,7 +117,7 @@ module _ (g : Over) (c : After-set_tag g) where
       let law = g.met.F.Format in
       subst (λ (ws : List ℕ). IsPlaced ⊥ here position (owner_view f o.frames o.levels ws c.next_in-next.result (o.held - 1) o.path o.level (Some c.in-Some.frame))) (sym words_now)
       (subst (λ (h : Option ℕ). IsPlaced ⊥ here position (owner_view f o.frames o.levels (slice_set o.words.items (1 + c.in-Some.frame) (placed_word position)) h (o.held - 1) o.path o.level (Some c.in-Some.frame))) next_is
-      (tags.placed f law.lawful_layout law.words_differ law.steps_agree o.frames o.levels o.words.items o.head o.held o.path o.level o.prepared c.self.invariant
+      (tags.placed law.lawful_layout law.words_differ law.steps_agree c.self.invariant
       c.in-Some.frame c.in-Some.is none position c.requires.legal))
 
 pub invariant_of-self : goal.invariant_of-self

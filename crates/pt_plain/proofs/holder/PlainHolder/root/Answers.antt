@@ -1,10 +1,11 @@
-use Rattle.std.proofs.Common.{◌≡◌, ℕ, ◌/◌, ◌%◌, [], ap, sym, ◌∙◌, subst, arith}
+use Rattle.std.proofs.Common.{◌≡◌, ℕ, ◌+◌, ◌/◌, ◌%◌, [], ap, sym, ◌∙◌, subst, arith}
 use Rattle.std.specs.Prelude.{slice_index, slice_set}
 use Rattle.std.proofs.lemmas.List.{get_or_default}
 use Rattle.pt_view.specs.Views.{linked_of}
 use Rattle.pt_view.specs.Calls.{Rooted}
 use Rattle.pt_plain.specs.Owner.{IsOwner, Owned, owner_view}
 use Rattle.pt_plain.proofs.Carried.{same_linked}
+use Rattle.pt_plain.proofs.FixedRoot.{fixed_root}
 use Rattle.pt_plain.proofs.OwnerPath.{root_owner, root_is}
 use Rattle.pt_plain.proofs.holder.PlainHolder.root.Given.{Over}
 use Rattle.pt_plain.proofs.holder.PlainHolder.root.Goals as goal
@@ -31,19 +32,33 @@ module _ (g : Over) (c : After-index-root g) where
       (owner_view f o.frames o.levels o.words.items o.head o.held (slice_set o.path (z % 8) (z / 8)) (z % 8) o.prepared)) (loaded g c)
       (root_is f o.frames o.levels o.words.items o.head o.held o.path o.level o.prepared c.self.invariant law.lawful_layout law.words_differ law.steps_agree no_path)
 
+pub root_level-level-requires : goal.root_level-level-requires
+root_level-level-requires g e = λ fixed.
+    let c = (goal.at.root_level-level-requires g e).After-index-root in
+    let o = c.self.inside in
+    let f = g.F.Format.layout in
+    subst (λ (z : ℕ). z % 8 + 1 ≡ f.levels) (loaded g c)
+    (fixed_root f o.frames o.levels o.words.items o.head o.held o.path o.level o.prepared c.self.invariant g.met.F.Format.lawful_layout fixed)
+
 pub invariant_of-self : goal.invariant_of-self
 invariant_of-self g e =
     let c = (goal.at.invariant_of-self g e).After-index-root in
     let o = c.self.inside in
     let f = g.F.Format.layout in
     let law = g.met.F.Format in
-    subst (λ (z : ℕ). IsOwner f o.frames o.levels o.words.items o.head o.held (slice_set o.path (z % 8) (z / 8)) (z % 8) o.prepared) (loaded g c)
-    (root_owner f o.frames o.levels o.words.items o.head o.held o.path o.level o.prepared c.self.invariant law.lawful_layout law.words_differ law.steps_agree (no_path g c))
+    let z = c.index-root.result.now in
+    subst (λ (k : ℕ). IsOwner f o.frames o.levels o.words.items o.head o.held (slice_set o.path k (z / 8)) k o.prepared) (sym e.root_level-level.ensures)
+    (subst (λ (z : ℕ). IsOwner f o.frames o.levels o.words.items o.head o.held (slice_set o.path (z % 8) (z / 8)) (z % 8) o.prepared) (loaded g c)
+    (root_owner f o.frames o.levels o.words.items o.head o.held o.path o.level o.prepared c.self.invariant law.lawful_layout law.words_differ law.steps_agree (no_path g c)))
 
 pub returns-clause-linked : goal.returns-clause-linked
 returns-clause-linked g e = λ _.
     let c = (goal.at.returns-clause-linked g e).After-index-root in
-    let r = rooted_is g c in
+    let o = c.self.inside in
+    let f = g.F.Format.layout in
+    let z = c.index-root.result.now in
+    let r = subst (λ (k : ℕ). Rooted f ⊥ (Unit {0}) (owner_view f o.frames o.levels o.words.items o.head o.held o.path o.level o.prepared) k
+    (owner_view f o.frames o.levels o.words.items o.head o.held (slice_set o.path k (z / 8)) k o.prepared)) (sym e.root_level-level.ensures) (rooted_is g c) in
     same_linked _ _ r.range r.book ∙ ap (λ (x : Owned). linked_of x.view) c.self.view_is
 
 pub returns-clause-rooted : goal.returns-clause-rooted
@@ -52,5 +67,7 @@ returns-clause-rooted g e =
     let o = c.self.inside in
     let f = g.F.Format.layout in
     let z = c.index-root.result.now in
-    subst (λ (x : Owned). Rooted f ⊥ (Unit {0}) x.view (z % 8) (owner_view f o.frames o.levels o.words.items o.head o.held (slice_set o.path (z % 8) (z / 8)) (z % 8) o.prepared))
-    c.self.view_is (rooted_is g c)
+    let r = subst (λ (k : ℕ). Rooted f ⊥ (Unit {0}) (owner_view f o.frames o.levels o.words.items o.head o.held o.path o.level o.prepared) k
+    (owner_view f o.frames o.levels o.words.items o.head o.held (slice_set o.path k (z / 8)) k o.prepared)) (sym e.root_level-level.ensures) (rooted_is g c) in
+    subst (λ (x : Owned). Rooted f ⊥ (Unit {0}) x.view e.root_level-level.result (owner_view f o.frames o.levels o.words.items o.head o.held (slice_set o.path e.root_level-level.result (z / 8)) e.root_level-level.result o.prepared))
+    c.self.view_is r

@@ -34,7 +34,7 @@ returns-then-tag_of-ne0-clause-taken g c =
     let o = c.self.inside in
     let law = g.met.F.Format in
     subst (λ (x : Owned). IsTaken ⊥ c.args.frame x.view false x.view) c.self.view_is
-    (tags.not_taken g.F.Format.layout law.lawful_layout law.words_differ law.steps_agree o.frames o.levels o.words.items o.head o.held o.path o.level o.prepared c.self.invariant
+    (tags.not_taken law.lawful_layout law.words_differ law.steps_agree c.self.invariant
     c.args.frame (old_within g c) (not_free g c))
 
 pub returns-then-tag_of-ne0-clause-all : goal.returns-then-tag_of-ne0-clause-all
@@ -42,7 +42,7 @@ returns-then-tag_of-ne0-clause-all g c = λ _.
     let o = c.self.inside in
     let law = g.met.F.Format in
     subst (λ (x : Owned). HasEveryFrame x.view → linked_of x.view + held_count x.view ≡ x.view.frames) c.self.view_is
-    (tags.every g.F.Format.layout law.lawful_layout law.words_differ law.steps_agree o.frames o.levels o.words.items o.head o.held o.path o.level o.prepared c.self.invariant)
+    (tags.every law.lawful_layout law.words_differ law.steps_agree c.self.invariant)
 
 -- The frame is free.
 module _ (g : Over) (c : After-set_tag g) where
@@ -71,7 +71,7 @@ overflow_add-self g e =
     let c = (goal.at.overflow_add-self g e).After-set_tag in
     let o = c.self.inside in
     let law = g.met.F.Format in
-    let room = tags.room g.F.Format.layout law.lawful_layout law.words_differ law.steps_agree o.frames o.levels o.words.items o.head o.held o.path o.level o.prepared c.self.invariant
+    let room = tags.room law.lawful_layout law.words_differ law.steps_agree c.self.invariant
     c.args.frame (within g c) (free g c) in
     let few = tags.frames_few g.F.Format.layout law.lawful_layout in
     let limit = c.self.invariant.lawful.sizes.limit in
@@ -90,7 +90,7 @@ module _ (g : Over) (c : After-set_tag g) where
       let f = g.F.Format.layout in
       let law = g.met.F.Format in
       subst (λ (ws : List ℕ). IsOwner f o.frames o.levels ws (Some c.args.frame) (o.held + 1) o.path o.level o.prepared) (sym (words_now g c))
-      (tags.takes_owner f law.lawful_layout law.words_differ law.steps_agree o.frames o.levels o.words.items o.head o.held o.path o.level o.prepared c.self.invariant
+      (tags.takes_owner law.lawful_layout law.words_differ law.steps_agree c.self.invariant
       c.args.frame (within g c) (free g c))
 
   taken_now : IsTaken ⊥ c.args.frame (here g c) true now
@@ -99,7 +99,7 @@ module _ (g : Over) (c : After-set_tag g) where
       let f = g.F.Format.layout in
       let law = g.met.F.Format in
       subst (λ (ws : List ℕ). IsTaken ⊥ c.args.frame (here g c) true (owner_view f o.frames o.levels ws (Some c.args.frame) (o.held + 1) o.path o.level o.prepared)) (sym (words_now g c))
-      (tags.taken f law.lawful_layout law.words_differ law.steps_agree o.frames o.levels o.words.items o.head o.held o.path o.level o.prepared c.self.invariant
+      (tags.taken law.lawful_layout law.words_differ law.steps_agree c.self.invariant
       c.args.frame (within g c) (free g c))
 
 pub invariant_of-self : goal.invariant_of-self
@@ -118,4 +118,4 @@ returns-clause-all g e = λ _.
     let c = (goal.at.returns-clause-all g e).After-set_tag in
     let o = c.self.inside in
     let law = g.met.F.Format in
-    tags.every g.F.Format.layout law.lawful_layout law.words_differ law.steps_agree o.frames o.levels (words' g c) (Some c.args.frame) (o.held + 1) o.path o.level o.prepared (owner_now g c)
+    tags.every law.lawful_layout law.words_differ law.steps_agree (owner_now g c)

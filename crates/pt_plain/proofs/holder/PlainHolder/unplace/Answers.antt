@@ -16,7 +16,7 @@ pub unreachable-requires : goal.unreachable-requires
 unreachable-requires g c =
     let o = c.self.inside in
     let law = g.met.F.Format in
-    tags.some_prepared g.F.Format.layout law.lawful_layout law.words_differ law.steps_agree o.frames o.levels o.words.items o.head o.held o.path o.level o.prepared c.self.invariant
+    tags.some_prepared law.lawful_layout law.words_differ law.steps_agree c.self.invariant
     (subst (λ (x : Owned). IsPrepared x.view) (sym c.self.view_is) c.requires) c.in_default.is
 
 pub set_tag-requires : goal.set_tag-requires
@@ -24,16 +24,16 @@ set_tag-requires g c =
     let o = c.self.inside in
     let f = g.F.Format.layout in
     let law = g.met.F.Format in
-    let within = tags.prepared_within f law.lawful_layout law.words_differ law.steps_agree o.frames o.levels o.words.items o.head o.held o.path o.level o.prepared c.self.invariant c.in-Some.prepared c.in-Some.is in
+    let within = tags.prepared_within law.lawful_layout law.words_differ law.steps_agree c.self.invariant c.in-Some.prepared c.in-Some.is in
     subst (λ (ws : List ℕ). 1 + c.in-Some.prepared < length ws) (sym c.deref_mut.ensures.value)
-    (tags.tag_there f law.lawful_layout law.words_differ law.steps_agree o.frames o.levels o.words.items o.head o.held o.path o.level o.prepared c.self.invariant c.in-Some.prepared within)
+    (tags.tag_there law.lawful_layout law.words_differ law.steps_agree c.self.invariant c.in-Some.prepared within)
 
 pub overflow_add-self : goal.overflow_add-self
 overflow_add-self g c =
     let o = c.self.inside in
     let f = g.F.Format.layout in
     let law = g.met.F.Format in
-    let room = tags.unplace_room f law.lawful_layout law.words_differ law.steps_agree o.frames o.levels o.words.items o.head o.held o.path o.level o.prepared c.self.invariant c.in-Some.prepared c.in-Some.is in
+    let room = tags.unplace_room law.lawful_layout law.words_differ law.steps_agree c.self.invariant c.in-Some.prepared c.in-Some.is in
     let few = tags.frames_few f law.lawful_layout in
     let limit = c.self.invariant.lawful.sizes.limit in
     omega arith
@@ -60,7 +60,7 @@ module _ (g : Over) (c : After-set_tag g) where
       let f = g.F.Format.layout in
       let law = g.met.F.Format in
       subst (λ (ws : List ℕ). IsOwner f o.frames o.levels ws (Some c.in-Some.prepared) (o.held + 1) o.path o.level None) (sym words_now)
-      (tags.unplaces_owner f law.lawful_layout law.words_differ law.steps_agree o.frames o.levels o.words.items o.head o.held o.path o.level o.prepared c.self.invariant c.in-Some.prepared c.in-Some.is)
+      (tags.unplaces_owner law.lawful_layout law.words_differ law.steps_agree c.self.invariant c.in-Some.prepared c.in-Some.is)
 
   unplaced_now : IsUnplaced ⊥ here now
   unplaced_now =
@@ -68,7 +68,7 @@ module _ (g : Over) (c : After-set_tag g) where
       let f = g.F.Format.layout in
       let law = g.met.F.Format in
       subst (λ (ws : List ℕ). IsUnplaced ⊥ here (owner_view f o.frames o.levels ws (Some c.in-Some.prepared) (o.held + 1) o.path o.level None)) (sym words_now)
-      (tags.unplaced f law.lawful_layout law.words_differ law.steps_agree o.frames o.levels o.words.items o.head o.held o.path o.level o.prepared c.self.invariant c.in-Some.prepared c.in-Some.is)
+      (tags.unplaced law.lawful_layout law.words_differ law.steps_agree c.self.invariant c.in-Some.prepared c.in-Some.is)
 
 pub invariant_of-self : goal.invariant_of-self
 invariant_of-self g c = owner_now g (goal.at.invariant_of-self g c).After-set_tag

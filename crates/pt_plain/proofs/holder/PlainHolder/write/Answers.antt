@@ -23,7 +23,7 @@ pub set_entry-requires-clause-a_frame : goal.set_entry-requires-clause-a_frame
 set_entry-requires-clause-a_frame g c =
     let o = c.self.inside in
     let law = g.met.F.Format in
-    stores.write_within g.F.Format.layout law.lawful_layout law.words_differ law.steps_agree o.frames o.levels o.words.items o.head o.held o.path o.level o.prepared c.self.invariant c.args.number (may g c).0 (may g c).2
+    stores.write_within law.lawful_layout law.words_differ law.steps_agree c.self.invariant c.args.number (may g c).0 (may g c).2
 
 module _ (g : Over) (c : After-set_entry g) where
   abbrev start : After-deref_mut g
@@ -50,7 +50,7 @@ invariant_of-self g e =
     let law = g.met.F.Format in
     let put = may g (start g c) in
     subst (λ (ws : List ℕ). IsOwner g.F.Format.layout o.frames o.levels ws o.head o.held o.path o.level o.prepared) (sym (words_now g c))
-    (stores.writes_owner g.F.Format.layout law.lawful_layout law.words_differ law.steps_agree o.frames o.levels o.words.items o.head o.held o.path o.level o.prepared c.self.invariant c.args.number put.0 put.2)
+    (stores.writes_owner law.lawful_layout law.words_differ law.steps_agree c.self.invariant c.args.number put.0 put.2)
 
 pub returns-clause-linked : goal.returns-clause-linked
 returns-clause-linked g e = λ _.
@@ -59,7 +59,7 @@ returns-clause-linked g e = λ _.
     let law = g.met.F.Format in
     let put = may g (start g c) in
     subst (λ (ws : List ℕ). linked_of (now g c ws) ≡ linked_of (view g (start g c))) (sym (words_now g c))
-    (stores.writes_linked g.F.Format.layout law.lawful_layout law.words_differ law.steps_agree o.frames o.levels o.words.items o.head o.held o.path o.level o.prepared c.self.invariant c.args.number put.0 put.2) ∙ ap (λ (x : Owned). linked_of x.view) c.self.view_is
+    (stores.writes_linked law.lawful_layout law.words_differ law.steps_agree c.self.invariant c.args.number put.0 put.2) ∙ ap (λ (x : Owned). linked_of x.view) c.self.view_is
 
 pub returns-clause-written : goal.returns-clause-written
 returns-clause-written g e =
@@ -71,4 +71,4 @@ returns-clause-written g e =
     subst (λ (x : Owned). IsWritten f ⊥ c.args.number c.args.word x.view (now g c (words' g c))) c.self.view_is
     (subst (λ (ws : List ℕ). IsWritten f ⊥ c.args.number c.args.word (view g (start g c)) (now g c ws)) (sym (words_now g c))
     (subst (λ (word : ℕ). IsWritten f ⊥ c.args.number word (view g (start g c)) (now g c (slice_set o.words.items (entry_place f o.frames (slice_index o.path o.level) c.args.number) (word_of f put.0)))) (sym put.1)
-    (stores.writes g.F.Format.layout law.lawful_layout law.words_differ law.steps_agree o.frames o.levels o.words.items o.head o.held o.path o.level o.prepared c.self.invariant c.args.number put.0 put.2)))
+    (stores.writes law.lawful_layout law.words_differ law.steps_agree c.self.invariant c.args.number put.0 put.2)))

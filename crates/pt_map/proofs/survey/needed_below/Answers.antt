@@ -1,9 +1,9 @@
 use Rattle.std.proofs.Common.{◌≡◌, ◌-◌, ◌≤◌, length, min, sym, ◌∙◌, ap}
 use Rattle.pt_map.specs.Parts.{needs_below}
 use Rattle.pt_map.proofs.Needs.{count_below}
-use Rattle.pt_map.proofs.absent.needed_below.Given.{Over}
-use Rattle.pt_map.proofs.absent.needed_below.Goals.{After-tables_needed}
-use Rattle.pt_map.proofs.absent.needed_below.Goals as goal
+use Rattle.pt_map.proofs.survey.needed_below.Given.{Over}
+use Rattle.pt_map.proofs.survey.needed_below.Goals.{After-tables_needed}
+use Rattle.pt_map.proofs.survey.needed_below.Goals as goal
 
 counted : (g : Over) (c : After-tables_needed g) → (c.from-over.result ≤ c.tables_needed.result)
     × (c.tables_needed.result - c.from-over.result ≡ min c.args.cap (length (needs_below g.F.Format.layout g.F.Format.layout.levels c.args.part c.args.level)))

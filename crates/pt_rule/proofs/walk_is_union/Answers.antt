@@ -1,0 +1,5 @@
+use Rattle.pt_rule.proofs.WalkUnion.{walk_is_union}
+use Rattle.pt_rule.proofs.walk_is_union.Goals as goal
+
+pub returns : goal.returns
+returns c = walk_is_union
