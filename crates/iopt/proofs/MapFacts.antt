@@ -18,7 +18,7 @@ use Rattle.pt_view.specs.declared.view.View.{View}
 use Rattle.pt_view.specs.declared.view.Piece.{Piece}
 use Rattle.pt_view.specs.Pieces.{IsOneOf, all_pieces, pieces_of, words_of}
 use Rattle.pt_view.specs.Views.{IsAtRest, SameBook, SameRange, book_of, linked_of}
-use Rattle.pt_view.specs.Lists.{IsAmong}
+use Rattle.pt_model.specs.Sets.{IsAmong}
 use Rattle.pt_walk.specs.Walks.{Walked}
 use Rattle.pt_map.specs.Answers.{HasNoEmptyTable, IsMapped, IsRefused, Request, lacking, request_of}
 use Rattle.iopt.specs.Built.{machine}

@@ -12,17 +12,17 @@ use Rattle.pt_model.specs.Tables.{is_before, add_position, add_positions, positi
 use Rattle.pt_model.specs.Tiling.{tiling}
 use Rattle.pt_model.specs.Book.{Book, add_blocks, mapped, table_lies_in}
 use Rattle.pt_model.specs.declared.block.Prot.{Prot}
-use Rattle.pt_model.specs.Sets.{Member, IsSorted}
-use Rattle.pt_model.proofs.Positions.{before_order, before_trans, add_after, add_before, add_again, sorted_add, sorted_adds}
+use Rattle.pt_model.specs.Sets.{IsAmong, IsSorted}
+use Rattle.pt_model.proofs.Positions.{before_order, before_trans, add_after, add_before, add_again, among_here, among_later, sorted_add, sorted_adds}
 use Rattle.pt_model.proofs.Tops.{power_mono, top_low, reaches_top}
 use Rattle.pt_tile.proofs.Counts.{adds_append}
 use Rattle.pt_format.specs.Laws.{IsLayout}
 use Rattle.pt_book.proofs.ListFacts.{small_power}
 
-member_at : (xs : List Position) (i : ℕ) (d : Position) → i < length xs → Member xs (get_or xs i d)
+member_at : (xs : List Position) (i : ℕ) (d : Position) → i < length xs → IsAmong xs (get_or xs i d)
 member_at [] i d h = absurd (omega arith)
-member_at (x ∷ xs) zero d h = inl refl
-member_at (x ∷ xs) (suc i) d h = inr (member_at xs i d (omega arith))
+member_at (x ∷ xs) zero d h = among_here x xs x refl
+member_at (x ∷ xs) (suc i) d h = among_later x xs (get_or xs i d) (member_at xs i d (omega arith))
 
 -- a position that is before all of a list is put first
 pub add_first : (xs : List Position) (p d : Position) → (0 < length xs → is_before p (get_or xs 0 d) ≡ true) →
@@ -57,7 +57,7 @@ add_known xs i p d s h b n =
     elim (before_order (get_or xs i d) p) [
       | inl before ↦ absurd (false≢true (sym b ∙ before))
       | inr other ↦ elim other [
-        | inl same ↦ add_again xs p s (subst (λ (q : Position). Member xs q) same (member_at xs i d h))
+        | inl same ↦ add_again xs p s (subst (λ (q : Position). IsAmong xs q) same (member_at xs i d h))
         | inr behind ↦ absurd (false≢true (sym n ∙ behind))
       ]
     ]

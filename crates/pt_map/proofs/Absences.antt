@@ -15,7 +15,7 @@ use Rattle.pt_view.specs.declared.view.Absence.{Absence}
 use Rattle.pt_view.specs.declared.view.Absence.TheVariants.{Zero}
 use Rattle.pt_view.specs.declared.holder.Seen.{Seen}
 use Rattle.pt_view.specs.declared.holder.Seen.TheVariants.{Empty, Leaf, Entered}
-use Rattle.pt_view.specs.Lists.{AddsPositions, IsAmong, SamePositions}
+use Rattle.pt_model.specs.Sets.{AddsPositions, IsAmong, SamePositions}
 use Rattle.pt_view.specs.Views.{SameHistory}
 use Rattle.pt_view.specs.Calls.{IsEntryAt, IsVacant, Looked, MeetsEntry, Went, zero as looked_zero, leaf as looked_leaf, table as looked_table, above, entry_first, is_under, left, lowest}
 use Rattle.pt_walk.specs.Walks.{AddsAbsences, Walked, entry_number}

@@ -4,9 +4,8 @@ use Rattle.std.specs.Prelude.{filter}
 use Rattle.std.proofs.lemmas.Bool.{cases_Bool, cases_lt}
 use Rattle.pt_model.specs.declared.position.Position.{Position}
 use Rattle.pt_model.specs.Tables.{is_before, is_same}
-use Rattle.pt_model.specs.Sets.{Member, IsSorted}
+use Rattle.pt_model.specs.Sets.{Member, IsSorted, IsAmong, one_if, places}
 use Rattle.pt_model.proofs.Positions.{before_self, is_same_self, is_same_true, member_filtered, member_passes}
-use Rattle.pt_view.specs.Lists.{IsAmong, one_if, places}
 
 pub among_member : (ps : List Position) (p : Position) → IsAmong ps p → Member ps p
 among_member [] p h = absurd (omega arith)

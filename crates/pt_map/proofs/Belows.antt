@@ -7,7 +7,7 @@ use Rattle.std.proofs.lemmas.Nat.{mul-le, shr_split}
 use Rattle.std.proofs.Math.Nat.{div-mul-le_self, mul-le-mul_left}
 use Rattle.pt_model.specs.declared.position.Position.{Position}
 use Rattle.pt_model.specs.Layout.{Layout}
-use Rattle.pt_model.specs.Sets.{IsSorted}
+use Rattle.pt_model.specs.Sets.{IsSorted, IsAmong, one_if}
 use Rattle.pt_model.specs.Tables.{is_same, is_spine, position_over}
 use Rattle.pt_tile.proofs.Begun.{aligned_sum, coarse_is_fine}
 use Rattle.pt_format.specs.Laws.{IsLayout}
@@ -16,7 +16,7 @@ use Rattle.pt_view.specs.declared.view.Piece.{Piece}
 use Rattle.pt_view.specs.declared.view.Absence.{Absence}
 use Rattle.pt_view.specs.declared.view.Change.{Change}
 use Rattle.pt_view.specs.declared.view.Change.TheVariants.{Written}
-use Rattle.pt_view.specs.Lists.{IsAmong, IsIn, one_if}
+use Rattle.pt_view.specs.Lists.{IsIn}
 use Rattle.pt_view.specs.Pieces.{IsOneOf, add_pieces, all_pieces, number_of, table_of}
 use Rattle.pt_view.specs.Calls.{lowest, pieces_at}
 use Rattle.pt_view.specs.Views.{SameBook, SameRange}

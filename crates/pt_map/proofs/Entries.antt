@@ -14,7 +14,7 @@ use Rattle.pt_model.specs.declared.block.Prot.{Prot}
 use Rattle.pt_model.specs.Layout.{Layout, IsLegalBlock, end_of, level_of_size, pages_of_entry, pages_of_table}
 use Rattle.pt_model.specs.Tables.{add_positions, all_needed, end_of_table, least_top, position_over}
 use Rattle.pt_model.specs.Tiling.{IsGreatestSize, block_at, tiling}
-use Rattle.pt_model.specs.Sets.{IsSorted}
+use Rattle.pt_model.specs.Sets.{IsSorted, IsAmong}
 use Rattle.pt_model.proofs.Positions.{member_adds, sorted_adds}
 use Rattle.pt_model.proofs.TilingFacts.{tiling_is, tiling_unique}
 use Rattle.pt_format.specs.Laws.{IsLayout}
@@ -22,7 +22,6 @@ use Rattle.pt_format.specs.Words.{GoBy, MayBeLeaf, MayBeLeaves}
 use Rattle.pt_tile.specs.Runs.{run_blocks}
 use Rattle.pt_view.specs.declared.view.View.{View}
 use Rattle.pt_view.specs.declared.view.Piece.{Piece}
-use Rattle.pt_view.specs.Lists.{IsAmong}
 use Rattle.pt_view.specs.Pieces.{IsOneOf, all_pieces, number_of, pieces_of, words_of}
 use Rattle.pt_view.specs.Calls.{ArePieces, IsWritten, IsWrittenRun, MayPut, MayWrite, MayWriteRun, off_spine, pieces_at, top_over}
 use Rattle.pt_walk.specs.Walks.{entry_number}

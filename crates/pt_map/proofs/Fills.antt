@@ -8,7 +8,7 @@ use Rattle.std.proofs.Math.Nat.{div-mul-le_self}
 use Rattle.pt_model.specs.declared.position.Position.{Position}
 use Rattle.pt_model.specs.declared.block.Block.{Block}
 use Rattle.pt_model.specs.Layout.{Layout, level_of_size, pages_of_table}
-use Rattle.pt_model.specs.Sets.{IsSorted}
+use Rattle.pt_model.specs.Sets.{IsSorted, IsAmong}
 use Rattle.pt_model.specs.Tables.{add_position, all_needed, end_of_table, is_spine, position_over}
 use Rattle.pt_model.proofs.Positions.{member_add, sorted_add}
 use Rattle.pt_format.specs.Laws.{IsLayout}
@@ -17,7 +17,6 @@ use Rattle.pt_view.specs.declared.view.Node.{Node}
 use Rattle.pt_view.specs.declared.view.Piece.{Piece}
 use Rattle.pt_view.specs.declared.view.Change.{Change}
 use Rattle.pt_view.specs.declared.view.Change.TheVariants.{Written}
-use Rattle.pt_view.specs.Lists.{IsAmong}
 use Rattle.pt_view.specs.Pieces.{IsOneOf, add_pieces, all_pieces, pieces_of, words_of}
 use Rattle.pt_view.specs.Calls.{above, left, lowest, pieces_at, with_table}
 use Rattle.pt_walk.specs.Walks.{IsWayDown, entry_number}

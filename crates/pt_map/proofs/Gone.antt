@@ -16,7 +16,7 @@ use Rattle.pt_tile.proofs.Begun.{coarse_is_fine}
 use Rattle.pt_view.specs.declared.view.View.{View}
 use Rattle.pt_view.specs.declared.view.Node.{Node}
 use Rattle.pt_view.specs.declared.view.Absence.{Absence}
-use Rattle.pt_view.specs.Lists.{IsAmong, places}
+use Rattle.pt_model.specs.Sets.{IsAmong, places}
 use Rattle.pt_view.specs.Calls.{lowest}
 use Rattle.pt_walk.specs.Walks.{IsClear, Walked}
 use Rattle.pt_walk.proofs.Ranges.{clear_from, clear_on}

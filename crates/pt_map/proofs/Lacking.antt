@@ -6,13 +6,12 @@ use Rattle.pt_model.specs.declared.block.Block.{Block}
 use Rattle.pt_model.specs.declared.position.Position.{Position}
 use Rattle.pt_model.specs.Layout.{Layout}
 use Rattle.pt_model.specs.Book.{is_linked}
-use Rattle.pt_model.specs.Sets.{IsSorted}
+use Rattle.pt_model.specs.Sets.{IsSorted, IsAmong, one_if, places}
 use Rattle.pt_model.specs.Tables.{end_of_table, is_same, is_spine, position_over, starting_top}
 use Rattle.pt_model.proofs.Positions.{any_member, member_any, sorted_filter}
 use Rattle.pt_format.specs.Laws.{IsLayout}
 use Rattle.pt_view.specs.declared.view.View.{View}
 use Rattle.pt_view.specs.declared.view.Absence.{Absence}
-use Rattle.pt_view.specs.Lists.{IsAmong, one_if, places}
 use Rattle.pt_view.specs.Views.{book_of}
 use Rattle.pt_walk.specs.Walks.{OwnsOver}
 use Rattle.pt_map.specs.declared.part.Part.{Part}

@@ -17,7 +17,8 @@ use Rattle.pt_view.specs.declared.holder.Seen.{Seen}
 use Rattle.pt_view.specs.declared.holder.Seen.TheVariants.{Empty, Leaf, Entered}
 use Rattle.pt_view.specs.declared.holder.Won.{Won}
 use Rattle.pt_view.specs.declared.holder.Won.TheVariants.{Yes, Met}
-use Rattle.pt_view.specs.Lists.{AddsPositions, IsAmong, SameFrames, SamePositions, one_if}
+use Rattle.pt_model.specs.Sets.{AddsPositions, IsAmong, SamePositions, one_if}
+use Rattle.pt_view.specs.Lists.{SameFrames}
 use Rattle.pt_view.specs.Views.{SameBook, SameHistory, SameRange}
 use Rattle.pt_view.specs.Calls.{IsEntryAt, IsInstalled, IsPlaced, IsUnplaced, MayInstall, MeetsOwn, MeetsEntry, Prepares, Went, is_under, lowest, pieces_at, with_table}
 use Rattle.pt_walk.specs.Walks.{AddsAbsences, IsInSpan, entry_number}

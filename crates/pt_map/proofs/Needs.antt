@@ -13,7 +13,7 @@ use Rattle.pt_model.specs.declared.position.Position.{Position}
 use Rattle.pt_model.specs.Layout.{Layout, end_of, input_pages, is_size, level_of_size, pages_of_entry, pages_of_table}
 use Rattle.pt_model.specs.Tables.{add_positions, all_needed, end_of_table, least_top, levels_between, needed, position_over, spine_position}
 use Rattle.pt_model.specs.Tiling.{IsTiling, block_at}
-use Rattle.pt_model.specs.Sets.{Member, IsSorted}
+use Rattle.pt_model.specs.Sets.{Member, IsSorted, IsAmong}
 use Rattle.pt_model.proofs.Positions.{level_member, member_adds, member_append, member_filtered, member_left, member_level, member_passes, same_members, sorted_adds, sorted_filter, sorted_levels}
 use Rattle.pt_model.proofs.TilingFacts.{tiling_first, tiling_is}
 use Rattle.pt_model.proofs.Tops.{power_mono, reaches_top, top_low}
@@ -21,7 +21,6 @@ use Rattle.pt_format.specs.Laws.{IsLayout}
 use Rattle.pt_tile.proofs.Levels.{in_levels, levels_in, over_first, size_low}
 use Rattle.pt_tile.proofs.Needed.{all_from}
 use Rattle.pt_walk.proofs.Quotients.{floor_le, multiple_under}
-use Rattle.pt_view.specs.Lists.{IsAmong}
 use Rattle.pt_map.specs.declared.part.Part.{Part}
 use Rattle.pt_map.specs.Parts.{IsPart, needs, needs_below, step, tiles}
 use Rattle.pt_map.proofs.Among.{among_filtered, among_member, member_among}

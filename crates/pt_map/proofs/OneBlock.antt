@@ -4,14 +4,13 @@ use Rattle.std.proofs.lemmas.List.{append-nil}
 use Rattle.pt_model.specs.declared.block.Block.{Block}
 use Rattle.pt_model.specs.declared.position.Position.{Position}
 use Rattle.pt_model.specs.Layout.{Layout, pages_of_entry}
-use Rattle.pt_model.specs.Sets.{IsSorted}
+use Rattle.pt_model.specs.Sets.{IsSorted, IsAmong}
 use Rattle.pt_model.specs.Tiling.{block_at}
 use Rattle.pt_format.specs.Laws.{IsLayout}
 use Rattle.pt_format.specs.Words.{MayBeLeaves}
 use Rattle.pt_tile.specs.Runs.{run_blocks}
 use Rattle.pt_view.specs.declared.view.View.{View}
 use Rattle.pt_view.specs.Calls.{held_count}
-use Rattle.pt_view.specs.Lists.{IsAmong}
 use Rattle.pt_walk.specs.Walks.{IsFree, OwnsOver, Walked}
 use Rattle.pt_sweep.proofs.Drawn.{keeps_here}
 use Rattle.pt_map.specs.declared.part.Part.{Part}

@@ -9,7 +9,7 @@ use Rattle.pt_model.specs.Layout.{Layout}
 use Rattle.pt_model.specs.Tables.{is_same}
 use Rattle.pt_model.proofs.Positions.{is_same_self, is_same_true}
 use Rattle.pt_view.specs.declared.view.Piece.{Piece}
-use Rattle.pt_view.specs.Lists.{one_if}
+use Rattle.pt_model.specs.Sets.{one_if}
 use Rattle.pt_view.specs.Pieces.{IsOneOf, add_piece, add_pieces, all_pieces, first_of, number_of, pieces_of, table_of}
 use Rattle.pt_view.specs.Calls.{pieces_at}
 

@@ -7,7 +7,7 @@ use Rattle.pt_model.specs.declared.position.Position.{Position}
 use Rattle.pt_model.specs.Layout.{Layout}
 use Rattle.pt_model.specs.Book.{IsLawful, MapRefusal, Occupied, lowest_mapped}
 use Rattle.pt_model.specs.Pages.{byte_at}
-use Rattle.pt_model.specs.Sets.{IsSorted}
+use Rattle.pt_model.specs.Sets.{IsSorted, IsAmong, places}
 use Rattle.pt_model.specs.Tables.{end_of_table, is_spine, least_top, position_over, starting_top}
 use Rattle.pt_format.specs.Laws.{IsLayout}
 use Rattle.pt_view.specs.declared.view.View.{View}
@@ -15,7 +15,7 @@ use Rattle.pt_view.specs.declared.view.Absence.{Absence}
 use Rattle.pt_view.specs.declared.view.Change.{Change}
 use Rattle.pt_view.specs.declared.view.Change.TheVariants.{Written}
 use Rattle.pt_view.specs.declared.view.Piece.{Piece}
-use Rattle.pt_view.specs.Lists.{IsAmong, IsIn, places}
+use Rattle.pt_view.specs.Lists.{IsIn}
 use Rattle.pt_view.specs.Pieces.{IsOneOf, add_pieces, all_pieces}
 use Rattle.pt_view.specs.Views.{IsAtRest, SameBook, SameRange, book_of}
 use Rattle.pt_walk.specs.Walks.{AddsAbsences, IsFree, OwnsAll, OwnsOver, Walked}

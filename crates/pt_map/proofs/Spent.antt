@@ -6,7 +6,7 @@ use Rattle.pt_model.specs.declared.position.Position.{Position}
 use Rattle.pt_model.specs.Tables.{is_same}
 use Rattle.pt_model.proofs.Positions.{is_same_true}
 use Rattle.pt_view.specs.declared.view.View.{View}
-use Rattle.pt_view.specs.Lists.{IsAmong, one_if, places}
+use Rattle.pt_model.specs.Sets.{IsAmong, one_if, places}
 use Rattle.pt_map.specs.Filled.{HasRoom, Spends}
 
 -- a list without the first place of a position

@@ -8,12 +8,11 @@ use Rattle.pt_model.specs.declared.block.Block.{Block}
 use Rattle.pt_model.specs.declared.position.Position.{Position}
 use Rattle.pt_model.specs.Layout.{Layout, input_pages, pages_of_table}
 use Rattle.pt_model.specs.Book.{IsLawful}
-use Rattle.pt_model.specs.Sets.{IsSorted}
+use Rattle.pt_model.specs.Sets.{IsSorted, IsAmong}
 use Rattle.pt_model.specs.Tables.{IsPosition, is_spine, position_over, spine_position, starting_top}
 use Rattle.pt_format.specs.Laws.{IsLayout}
 use Rattle.pt_view.specs.declared.view.View.{View}
 use Rattle.pt_view.specs.declared.view.Node.{Node}
-use Rattle.pt_view.specs.Lists.{IsAmong}
 use Rattle.pt_view.specs.Pieces.{IsOneOf}
 use Rattle.pt_view.specs.Calls.{Rooted, lowest}
 use Rattle.pt_view.specs.Views.{IsAtRest, book_of}

@@ -5,7 +5,7 @@ use Rattle.std.proofs.lemmas.Bool.{ltb-true}
 use Rattle.pt_model.specs.declared.position.Position.{Position}
 use Rattle.pt_model.specs.Layout.{Layout}
 use Rattle.pt_view.specs.declared.view.View.{View}
-use Rattle.pt_view.specs.Lists.{IsAmong}
+use Rattle.pt_model.specs.Sets.{IsAmong}
 use Rattle.pt_view.specs.Views.{SameBook}
 use Rattle.pt_walk.specs.Walks.{IsFree, IsLowest, Walked}
 use Rattle.pt_walk.proofs.Ranges.{free_on, lowest_more, lowest_on}

@@ -10,14 +10,13 @@ use Rattle.pt_model.specs.declared.position.Position.{Position}
 use Rattle.pt_model.specs.Layout.{Layout, end_of, is_size, level_of_size, pages_of_table}
 use Rattle.pt_model.specs.Tables.{add_positions, end_of_table, is_before, is_spine, needed, position_over}
 use Rattle.pt_model.specs.Tiling.{IsTiling}
-use Rattle.pt_model.specs.Sets.{IsSorted, Member}
+use Rattle.pt_model.specs.Sets.{IsSorted, Member, IsAmong}
 use Rattle.pt_model.specs.Book.{table_lies_in}
 use Rattle.pt_model.proofs.Positions.{adds_by_members, filter_members, member_filtered, member_passes}
 use Rattle.pt_model.proofs.TilingFacts.{tiling_is}
 use Rattle.pt_format.specs.Laws.{IsLayout}
 use Rattle.pt_view.specs.declared.view.View.{View}
 use Rattle.pt_view.specs.declared.view.Piece.{Piece}
-use Rattle.pt_view.specs.Lists.{IsAmong}
 use Rattle.pt_view.specs.Pieces.{IsOneOf, add_piece, add_pieces, all_pieces, first_of, pieces_of, words_of}
 use Rattle.pt_walk.specs.Walks.{IsFree}
 use Rattle.pt_walk.proofs.Books.{is_part, piece_at}

@@ -5,12 +5,11 @@ use Rattle.std.proofs.lemmas.Bool.{and_parts, cases_eq, cases_lt, false_from_ne_
 use Rattle.pt_model.specs.declared.block.Block.{Block}
 use Rattle.pt_model.specs.declared.position.Position.{Position}
 use Rattle.pt_model.specs.Layout.{Layout}
-use Rattle.pt_model.specs.Sets.{IsSorted}
+use Rattle.pt_model.specs.Sets.{IsSorted, IsAmong}
 use Rattle.pt_model.specs.Tables.{is_spine, position_over, starting_top}
 use Rattle.pt_format.specs.Laws.{IsLayout}
 use Rattle.pt_view.specs.declared.view.View.{View}
 use Rattle.pt_view.specs.declared.view.Node.{Node}
-use Rattle.pt_view.specs.Lists.{IsAmong}
 use Rattle.pt_view.specs.Calls.{left}
 use Rattle.pt_walk.specs.Walks.{IsWayDown}
 use Rattle.pt_map.specs.declared.part.Part.{Part}

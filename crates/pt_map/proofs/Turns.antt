@@ -11,7 +11,7 @@ use Rattle.pt_format.specs.Words.{MayBeLeaves}
 use Rattle.pt_tile.specs.Runs.{run_blocks}
 use Rattle.pt_tile.proofs.Levels.{size_low}
 use Rattle.pt_view.specs.declared.view.View.{View}
-use Rattle.pt_view.specs.Lists.{IsAmong}
+use Rattle.pt_model.specs.Sets.{IsAmong}
 use Rattle.pt_view.specs.Calls.{left}
 use Rattle.pt_map.specs.declared.part.Part.{Part}
 use Rattle.pt_map.specs.Filled.{Filled, HasRoom, IsDeeper, MayFill, Spends, next_table}

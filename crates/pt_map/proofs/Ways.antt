@@ -7,7 +7,7 @@ use Rattle.pt_model.specs.Layout.{Layout}
 use Rattle.pt_model.specs.Tables.{is_same, position_over}
 use Rattle.pt_model.proofs.Positions.{is_same_self, is_same_true}
 use Rattle.pt_view.specs.declared.view.Node.{Node}
-use Rattle.pt_view.specs.Lists.{IsAmong, one_if}
+use Rattle.pt_model.specs.Sets.{IsAmong, one_if}
 use Rattle.pt_walk.specs.Walks.{IsWayDown}
 
 -- the positions of a path

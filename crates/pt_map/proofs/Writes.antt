@@ -7,7 +7,7 @@ use Rattle.std.proofs.lemmas.Nat.{pow_pos}
 use Rattle.pt_model.specs.declared.position.Position.{Position}
 use Rattle.pt_model.specs.declared.block.Block.{Block}
 use Rattle.pt_model.specs.Layout.{Layout, IsLegalBlock, end_of, level_of_size, pages_of_entry}
-use Rattle.pt_model.specs.Sets.{IsSorted}
+use Rattle.pt_model.specs.Sets.{IsSorted, IsAmong, SamePositions}
 use Rattle.pt_model.specs.Tables.{add_positions, is_spine, least_top, needed, position_over}
 use Rattle.pt_model.specs.Tiling.{IsTiling}
 use Rattle.pt_model.proofs.Positions.{member_adds, sorted_adds}
@@ -18,7 +18,7 @@ use Rattle.pt_view.specs.declared.view.View.{View}
 use Rattle.pt_view.specs.declared.view.Node.{Node}
 use Rattle.pt_view.specs.declared.view.Piece.{Piece}
 use Rattle.pt_view.specs.declared.view.Change.TheVariants.{Written}
-use Rattle.pt_view.specs.Lists.{IsAmong, SameFrames, SamePositions}
+use Rattle.pt_view.specs.Lists.{SameFrames}
 use Rattle.pt_view.specs.Pieces.{IsOneOf, add_piece, add_pieces, all_pieces, word_of}
 use Rattle.pt_view.specs.Views.{SamePurse, SameRange}
 use Rattle.pt_view.specs.Calls.{IsWritten, MayPut, MayWrite, entry_end, entry_first, is_under, lowest, off_spine, pieces_at}

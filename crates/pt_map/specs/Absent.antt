@@ -7,7 +7,7 @@ use Rattle.pt_model.specs.Tables.{end_of_table}
 use Rattle.pt_view.specs.declared.view.View.{View}
 use Rattle.pt_view.specs.declared.view.Absence.{Absence}
 use Rattle.pt_view.specs.declared.view.Absence.TheVariants.{Zero, Top}
-use Rattle.pt_view.specs.Lists.{IsAmong, places}
+use Rattle.pt_model.specs.Sets.{IsAmong, places}
 use Rattle.pt_walk.specs.Walks.{IsFree, IsLowest}
 use Rattle.pt_map.specs.declared.part.Part.{Part}
 use Rattle.pt_map.specs.declared.survey.Found.{Found}

@@ -12,7 +12,8 @@ use Rattle.pt_view.specs.declared.view.View.{View}
 use Rattle.pt_view.specs.declared.view.Piece.{Piece}
 use Rattle.pt_view.specs.declared.view.Absence.{Absence}
 use Rattle.pt_view.specs.declared.view.Change.TheVariants.{Written}
-use Rattle.pt_view.specs.Lists.{IsIn, IsAmong, places}
+use Rattle.pt_model.specs.Sets.{IsAmong, places}
+use Rattle.pt_view.specs.Lists.{IsIn}
 use Rattle.pt_view.specs.Pieces.{IsOneOf, all_pieces, first_of}
 use Rattle.pt_view.specs.Views.{IsAtRest, SameRange, SameBook, book_of}
 use Rattle.pt_walk.specs.Walks.{AddsAbsences}

@@ -4,12 +4,12 @@ use Rattle.pt_model.specs.declared.position.Position.{Position}
 use Rattle.pt_model.specs.Layout.{Layout}
 use Rattle.pt_model.specs.Book.{Book, Occupied, lowest_mapped, map_refusal}
 use Rattle.pt_model.specs.Pages.{byte_at}
-use Rattle.pt_model.specs.Sets.{IsSorted}
+use Rattle.pt_model.specs.Sets.{IsSorted, IsAmong, places}
 use Rattle.pt_model.specs.Tables.{IsPosition, is_spine, starting_top}
 use Rattle.pt_view.specs.declared.view.View.{View}
 use Rattle.pt_view.specs.declared.view.Absence.{Absence}
 use Rattle.pt_view.specs.declared.view.Change.TheVariants.{Written}
-use Rattle.pt_view.specs.Lists.{IsAmong, IsIn, places}
+use Rattle.pt_view.specs.Lists.{IsIn}
 use Rattle.pt_view.specs.Pieces.{add_pieces, all_pieces}
 use Rattle.pt_view.specs.Views.{SameRange}
 use Rattle.pt_walk.specs.Walks.{IsClear, IsFree, IsLowest, IsWayDown, OwnsAll}

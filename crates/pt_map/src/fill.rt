@@ -6,7 +6,7 @@ ghost use Rattle.pt_model.specs.declared.position.Position.{Position};
 ghost use Rattle.pt_model.specs.Layout.{level_of_size};
 ghost use Rattle.pt_format.specs.Words.{GoBy};
 ghost use Rattle.pt_tile.specs.Sizes.{HasAllSizes};
-ghost use Rattle.pt_view.specs.Lists.{IsAmong};
+ghost use Rattle.pt_model.specs.Sets.{IsAmong};
 ghost use Rattle.pt_model.specs.Sets.{IsSorted};
 ghost use Rattle.pt_model.specs.Tables.{is_spine};
 ghost use Rattle.pt_walk.specs.Walks as walks;

@@ -10,7 +10,8 @@ use Rattle.pt_model.specs.Tables.{add_position, is_spine, levels_between, spine_
 use Rattle.pt_model.proofs.Positions.{add_after, add_before, before_order}
 use Rattle.pt_model.specs.Words.{root_level, tag}
 use Rattle.pt_view.specs.declared.view.View.{View}
-use Rattle.pt_view.specs.Lists.{AddsFrame, AddsPositions, IsAmong, IsIn, SameFrames, SamePositions, places}
+use Rattle.pt_model.specs.Sets.{AddsPositions, IsAmong, SamePositions, places}
+use Rattle.pt_view.specs.Lists.{AddsFrame, IsIn, SameFrames}
 use Rattle.pt_view.specs.Views.{SameBook, SamePurse, SameRange, linked_of}
 use Rattle.pt_rule.specs.Totals.{has_table, total}
 use Rattle.pt_rule.specs.Lawful.{Lawful}

@@ -13,7 +13,8 @@ use Rattle.pt_format.specs.Manual.{StepsAgree}
 use Rattle.pt_view.specs.declared.view.View.{View}
 use Rattle.pt_view.specs.declared.view.Node.{Node}
 use Rattle.pt_view.specs.declared.holder.Seen.TheVariants.{Empty, Leaf, Entered}
-use Rattle.pt_view.specs.Lists.{AddsPositions, IsAmong, SameFrames}
+use Rattle.pt_model.specs.Sets.{AddsPositions, IsAmong}
+use Rattle.pt_view.specs.Lists.{SameFrames}
 use Rattle.pt_view.specs.Pieces.{level_of}
 use Rattle.pt_view.specs.Calls.{IsEntryAt, IsVacant, Looked, MeetsEntry, Went, zero as looked_zero, table as looked_table}
 use Rattle.pt_rule.specs.Lawful.{Lawful}

@@ -16,7 +16,8 @@ use Rattle.pt_rule.proofs.RootKept.{root_loaded}
 use Rattle.pt_rule.proofs.CallsRooted.{rooted}
 use Rattle.pt_plain.specs.Owner.{IsOwner, busy_in, nodes_down, owner_view}
 use Rattle.pt_model.specs.declared.position.Position.{Position}
-use Rattle.pt_view.specs.Lists.{IsAmong, SameFrames}
+use Rattle.pt_model.specs.Sets.{IsAmong}
+use Rattle.pt_view.specs.Lists.{SameFrames}
 use Rattle.pt_plain.proofs.OwnerFacts.{live, matches, shown}
 use Rattle.pt_plain.proofs.Paths.{Follows, nodes_above, nodes_down_more, nodes_length}
 use Rattle.pt_plain.proofs.ReadBack.{Matches, agrees, owner}

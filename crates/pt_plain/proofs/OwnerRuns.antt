@@ -13,7 +13,8 @@ use Rattle.pt_format.specs.Laws.{IsLayout, WordsDiffer}
 use Rattle.pt_format.specs.Manual.{StepsAgree}
 use Rattle.pt_view.specs.declared.view.View.{View}
 use Rattle.pt_view.specs.declared.view.Piece.{Piece}
-use Rattle.pt_view.specs.Lists.{IsAmong, SameFrames, SamePositions}
+use Rattle.pt_model.specs.Sets.{IsAmong, SamePositions}
+use Rattle.pt_view.specs.Lists.{SameFrames}
 use Rattle.pt_view.specs.Pieces.{add_piece, add_pieces, pieces_by, number_of, word_of}
 use Rattle.pt_view.specs.Views.{SamePurse, SameRange, linked_of}
 use Rattle.pt_view.specs.Calls.{ArePieces, IsWritten, IsWrittenRun, MayPut, lowest, off_spine, pieces_at, top_over}

@@ -16,7 +16,8 @@ use Rattle.pt_view.specs.declared.view.Node.{Node}
 use Rattle.pt_view.specs.declared.view.Piece.{Piece}
 use Rattle.pt_view.specs.declared.view.Prepared.{Prepared}
 use Rattle.pt_view.specs.declared.holder.Won.TheVariants.{Yes, Met}
-use Rattle.pt_view.specs.Lists.{IsAmong, SameFrames}
+use Rattle.pt_model.specs.Sets.{IsAmong}
+use Rattle.pt_view.specs.Lists.{SameFrames}
 use Rattle.pt_view.specs.Pieces.{word_of}
 use Rattle.pt_view.specs.Views.{linked_of}
 use Rattle.pt_view.specs.Calls.{IsEntryAt, IsInstalled, IsWritten, MayInstall, MayPut, entry_end, entry_first, is_under, with_table, MeetsOwn}

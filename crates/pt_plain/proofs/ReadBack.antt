@@ -12,7 +12,7 @@ use Rattle.pt_format.specs.Manual.{StepsAgree}
 use Rattle.pt_view.specs.declared.view.View.{View}
 use Rattle.pt_view.specs.declared.view.Node.{Node}
 use Rattle.pt_view.specs.declared.view.Prepared.{Prepared}
-use Rattle.pt_view.specs.Lists.{IsAmong}
+use Rattle.pt_model.specs.Sets.{IsAmong}
 use Rattle.pt_view.specs.Calls.{meets_span}
 use Rattle.pt_view.specs.Views.{SameBook, SamePurse, SameRange}
 use Rattle.pt_rule.specs.Tags.{Chained, first_or}

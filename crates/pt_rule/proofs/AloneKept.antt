@@ -12,7 +12,8 @@ use Rattle.pt_model.specs.Tables.{end_of_table, is_spine}
 use Rattle.pt_model.specs.Words.{tag, root_level}
 use Rattle.pt_view.specs.declared.view.View.{View}
 use Rattle.pt_view.specs.declared.view.Piece.{Piece}
-use Rattle.pt_view.specs.Lists.{one_if, IsIn, IsAmong}
+use Rattle.pt_model.specs.Sets.{one_if, IsAmong}
+use Rattle.pt_view.specs.Lists.{IsIn}
 use Rattle.pt_view.specs.Pieces.{table_of}
 use Rattle.pt_view.specs.Calls.{meets_span}
 use Rattle.pt_view.specs.Views.{spent}

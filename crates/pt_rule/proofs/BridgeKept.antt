@@ -13,7 +13,7 @@ use Rattle.pt_model.specs.Tables.{parent_of, spine_position}
 use Rattle.pt_model.specs.Words.{entry_of, entry_place, tag}
 use Rattle.pt_view.specs.declared.view.View.{View}
 use Rattle.pt_view.specs.declared.view.Prepared.{Prepared}
-use Rattle.pt_view.specs.Lists.{one_if}
+use Rattle.pt_model.specs.Sets.{one_if}
 use Rattle.pt_view.specs.Views.{SameRange, SameBook}
 use Rattle.pt_rule.specs.Totals.{total, bridge_in, bridge_pointer, has_bridge, has_table, holds, is_prepared, prepares}
 use Rattle.pt_rule.specs.Tags.{IsTag, is_held, is_placed}

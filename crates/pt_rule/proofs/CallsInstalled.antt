@@ -12,7 +12,7 @@ use Rattle.pt_view.specs.declared.view.View.{View}
 use Rattle.pt_view.specs.declared.view.Node.{Node}
 use Rattle.pt_view.specs.declared.view.Prepared.{Prepared}
 use Rattle.pt_view.specs.declared.holder.Won.TheVariants.{Yes, Met}
-use Rattle.pt_view.specs.Lists.{AddsPositions}
+use Rattle.pt_model.specs.Sets.{AddsPositions}
 use Rattle.pt_view.specs.Calls.{IsEntryAt, IsInstalled, MayInstall, entry_first, lowest, with_table}
 use Rattle.pt_rule.specs.Kinds.{InstallTells, zero as tells_zero, pointer, install, installed, level_at, pointer_to, put}
 use Rattle.pt_rule.proofs.TreeFacts.{is_address}

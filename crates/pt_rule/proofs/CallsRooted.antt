@@ -9,7 +9,8 @@ use Rattle.pt_model.specs.declared.position.Position.{Position}
 use Rattle.pt_model.specs.Layout.{Layout, input_pages}
 use Rattle.pt_model.specs.Tables.{is_spine, levels_between, spine_position, starting_top}
 use Rattle.pt_view.specs.declared.view.View.{View}
-use Rattle.pt_view.specs.Lists.{AddsPositions, IsAmong, SameFrames, SamePositions, places}
+use Rattle.pt_model.specs.Sets.{AddsPositions, IsAmong, SamePositions, places}
+use Rattle.pt_view.specs.Lists.{SameFrames}
 use Rattle.pt_view.specs.Views.{SameHistory, SamePurse}
 use Rattle.pt_view.specs.Calls.{Rooted}
 use Rattle.pt_rule.specs.Kinds.{RootTells, after, load_root}

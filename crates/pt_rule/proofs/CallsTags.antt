@@ -5,7 +5,8 @@ use Rattle.pt_model.specs.declared.position.Position.{Position}
 use Rattle.pt_model.specs.Layout.{Layout}
 use Rattle.pt_view.specs.declared.view.View.{View}
 use Rattle.pt_view.specs.declared.view.Prepared.{Prepared}
-use Rattle.pt_view.specs.Lists.{IsIn, AddsFrame, SameFrames, SamePositions}
+use Rattle.pt_model.specs.Sets.{SamePositions}
+use Rattle.pt_view.specs.Lists.{IsIn, AddsFrame, SameFrames}
 use Rattle.pt_view.specs.Calls.{IsPlaced, IsTaken, IsUnplaced}
 use Rattle.pt_rule.specs.Kinds.{after, place, rest_of, take, unplace}
 use Rattle.pt_rule.proofs.TotalsKept.{in_cases, in_here, in_more}

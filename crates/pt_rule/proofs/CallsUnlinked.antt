@@ -13,7 +13,7 @@ use Rattle.pt_format.specs.Laws.{IsLayout, WordsDiffer}
 use Rattle.pt_format.specs.Manual.{StepsAgree}
 use Rattle.pt_view.specs.declared.view.View.{View}
 use Rattle.pt_view.specs.declared.view.Node.{Node}
-use Rattle.pt_view.specs.Lists.{IsAmong, RemovesPosition, without_position}
+use Rattle.pt_model.specs.Sets.{IsAmong, RemovesPosition, without_position}
 use Rattle.pt_view.specs.Pieces.{first_of}
 use Rattle.pt_view.specs.Views.{linked_of}
 use Rattle.pt_view.specs.Calls.{above, begins_under, entry_first, entry_end, is_under, lowest, span_end, IsEntryAt, IsUnlinked, MayUnlink, MeetsEntry}

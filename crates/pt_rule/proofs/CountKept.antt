@@ -17,7 +17,8 @@ use Rattle.pt_model.specs.Words.{tag, placed_at, placed_word, root_level}
 use Rattle.pt_format.specs.Laws.{IsLayout}
 use Rattle.pt_view.specs.declared.view.View.{View}
 use Rattle.pt_view.specs.declared.view.Prepared.{Prepared}
-use Rattle.pt_view.specs.Lists.{one_if, times, places, IsAmong}
+use Rattle.pt_model.specs.Sets.{one_if, places, IsAmong}
+use Rattle.pt_view.specs.Lists.{times}
 use Rattle.pt_view.specs.Calls.{held_count, prepared_count, HasEveryFrame}
 use Rattle.pt_view.specs.Views.{linked_of}
 use Rattle.pt_rule.specs.Totals.{total, is_prepared, prepares}

@@ -14,7 +14,7 @@ use Rattle.pt_model.specs.Layout.{Layout}
 use Rattle.pt_model.specs.Tables.{is_before}
 use Rattle.pt_view.specs.declared.view.View.{View}
 use Rattle.pt_view.specs.declared.view.Piece.{Piece}
-use Rattle.pt_view.specs.Lists.{IsAmong, one_if}
+use Rattle.pt_model.specs.Sets.{IsAmong, one_if}
 use Rattle.pt_view.specs.Pieces.{first_of, word_of}
 use Rattle.pt_view.specs.Calls.{pieces_at}
 use Rattle.pt_rule.specs.Totals.{Each, total, words_at}

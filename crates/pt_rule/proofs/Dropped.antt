@@ -9,7 +9,7 @@ use Rattle.pt_model.specs.declared.position.Position.{Position}
 use Rattle.pt_model.specs.Layout.{Layout}
 use Rattle.pt_model.specs.Tables.{is_before, is_same}
 use Rattle.pt_view.specs.declared.view.Piece.{Piece}
-use Rattle.pt_view.specs.Lists.{places, IsAmong, RemovesPosition, without_position}
+use Rattle.pt_model.specs.Sets.{places, IsAmong, RemovesPosition, without_position}
 use Rattle.pt_view.specs.Pieces.{IsOneOf, first_of, table_of, number_of, word_of}
 use Rattle.pt_view.specs.Calls.{drop_at, pieces_at}
 use Rattle.pt_rule.specs.Totals.{words_at}

@@ -3,7 +3,8 @@ use Rattle.std.proofs.Common.{◌≡◌, ◌≢◌, ℕ, zero, suc, Bool, ◌+�
 use Rattle.std.specs.Prelude.{◌==◌}
 use mathlib.Core.Logic.{dite}
 use native.Mathlib.Decide.{ℕ_discrete, dec_le}
-use Rattle.pt_view.specs.Lists.{one_if, times}
+use Rattle.pt_model.specs.Sets.{one_if}
+use Rattle.pt_view.specs.Lists.{times}
 use Rattle.pt_rule.proofs.TotalsKept.{times_here}
 
 -- f of each number below n, added up

@@ -17,7 +17,8 @@ use Rattle.pt_model.specs.Words.{root_level}
 use Rattle.pt_view.specs.declared.view.View.{View}
 use Rattle.pt_view.specs.declared.view.Piece.{Piece}
 use Rattle.pt_view.specs.declared.view.Prepared.{Prepared}
-use Rattle.pt_view.specs.Lists.{one_if, IsIn, IsAmong, places}
+use Rattle.pt_model.specs.Sets.{one_if, IsAmong, places}
+use Rattle.pt_view.specs.Lists.{IsIn}
 use Rattle.pt_view.specs.Calls.{meets_span}
 use Rattle.pt_view.specs.Views.{SameRange}
 use Rattle.pt_rule.specs.Totals.{total, prepares, has_table, is_prepared}

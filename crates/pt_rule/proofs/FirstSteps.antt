@@ -5,7 +5,7 @@ use Rattle.pt_model.specs.declared.position.Position.{Position}
 use Rattle.pt_view.specs.declared.view.View.{View}
 use Rattle.pt_view.specs.declared.view.Absence.TheVariants.{Zero, Top}
 use Rattle.pt_view.specs.declared.view.Change.TheVariants.{Written}
-use Rattle.pt_view.specs.Lists.{IsAmong}
+use Rattle.pt_model.specs.Sets.{IsAmong}
 use Rattle.pt_view.specs.Calls.{MayPut, MayInstall, is_under}
 use Rattle.pt_rule.specs.Kinds.{Kind, take, place, unplace, free, mark, load_root, look, install, write, place_of, put, after}
 use Rattle.pt_rule.proofs.TotalsKept.{among_cases}

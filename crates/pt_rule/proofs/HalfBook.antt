@@ -10,7 +10,7 @@ use Rattle.pt_model.specs.Layout.{Layout, end_of, level_of_size, pages_of_table}
 use Rattle.pt_model.specs.Tables.{is_spine, least_top, levels_between, needed, position_over, spine_position, starting_top}
 use Rattle.pt_view.specs.declared.view.View.{View}
 use Rattle.pt_view.specs.declared.view.Piece.{Piece}
-use Rattle.pt_view.specs.Lists.{IsAmong}
+use Rattle.pt_model.specs.Sets.{IsAmong}
 use Rattle.pt_view.specs.Pieces.{IsOneOf}
 use Rattle.pt_rule.specs.Lawful.{HasBook, IsOwnPiece, IsOwnTable}
 use Rattle.pt_rule.proofs.TotalsKept.{all_append, all_map, among_all}

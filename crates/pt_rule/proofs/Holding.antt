@@ -13,7 +13,8 @@ use Rattle.pt_format.specs.Laws.{IsLayout}
 use Rattle.pt_view.specs.declared.view.View.{View}
 use Rattle.pt_view.specs.declared.view.Node.{Node}
 use Rattle.pt_view.specs.declared.view.Prepared.{Prepared}
-use Rattle.pt_view.specs.Lists.{IsIn, one_if, times}
+use Rattle.pt_model.specs.Sets.{one_if}
+use Rattle.pt_view.specs.Lists.{IsIn, times}
 use Rattle.pt_view.specs.Calls.{held_count, prepared_count}
 use Rattle.pt_rule.specs.Totals.{total, holds, prepares, is_prepared}
 use Rattle.pt_rule.specs.Tags.{is_held, is_placed}

@@ -16,7 +16,7 @@ use Rattle.pt_format.specs.Words.{IsTableLevel, IsTableAddress}
 use Rattle.pt_format.specs.Laws.{IsLayout, WordsDiffer}
 use Rattle.pt_view.specs.declared.view.View.{View}
 use Rattle.pt_view.specs.declared.view.Prepared.{Prepared}
-use Rattle.pt_view.specs.Lists.{one_if, places, IsAmong}
+use Rattle.pt_model.specs.Sets.{one_if, places, IsAmong}
 use Rattle.pt_view.specs.Pieces.{table_of}
 use Rattle.pt_view.specs.Views.{SameRange}
 use Rattle.pt_view.specs.Calls.{meets_span, with_table}

@@ -18,7 +18,8 @@ use Rattle.pt_format.specs.Laws.{IsLayout}
 use Rattle.pt_view.specs.declared.view.View.{View}
 use Rattle.pt_view.specs.declared.view.Piece.{Piece}
 use Rattle.pt_view.specs.declared.view.Prepared.{Prepared}
-use Rattle.pt_view.specs.Lists.{IsAmong, IsIn, one_if, places, times}
+use Rattle.pt_model.specs.Sets.{IsAmong, one_if, places}
+use Rattle.pt_view.specs.Lists.{IsIn, times}
 use Rattle.pt_view.specs.Pieces.{first_of, table_of, word_of}
 use Rattle.pt_view.specs.Views.{spent}
 use Rattle.pt_view.specs.Calls.{meets_span, pieces_at}

@@ -17,7 +17,7 @@ use Rattle.pt_view.specs.declared.view.View.{View}
 use Rattle.pt_view.specs.declared.view.Node.{Node}
 use Rattle.pt_view.specs.declared.view.Absence.{Absence}
 use Rattle.pt_view.specs.declared.view.Absence.TheVariants.{Zero}
-use Rattle.pt_view.specs.Lists.{IsAmong}
+use Rattle.pt_model.specs.Sets.{IsAmong}
 use Rattle.pt_view.specs.Pieces.{IsOneOf}
 use Rattle.pt_view.specs.Calls.{entry_first, entry_end, is_under, lowest, meets_span, pieces_at, IsEntryAt, IsVacant}
 use Rattle.pt_rule.specs.Totals.{total, has_piece}

@@ -12,11 +12,11 @@ use Rattle.pt_model.specs.Words.{tag}
 use Rattle.pt_view.specs.declared.view.View.{View}
 use Rattle.pt_view.specs.declared.view.Node.{Node}
 use Rattle.pt_view.specs.declared.view.Prepared.{Prepared}
-use Rattle.pt_view.specs.Lists.{one_if, IsIn, IsAmong}
+use Rattle.pt_model.specs.Sets.{one_if, IsAmong, places}
+use Rattle.pt_view.specs.Lists.{IsIn}
 use Rattle.pt_view.specs.Calls.{meets_span}
 use Rattle.pt_view.specs.Views.{SameRange, SameBook}
 use Rattle.pt_rule.specs.Totals.{prepares, has_table, is_prepared}
-use Rattle.pt_view.specs.Lists.{places}
 use Rattle.pt_rule.specs.Linked.{is_in_tree}
 use Rattle.pt_rule.specs.Lawful.{Lawful, HasPath, IsOnPath, BeginsOnSpine, Descends}
 use Rattle.pt_rule.proofs.TotalsKept.{total_same}

@@ -14,7 +14,8 @@ use Rattle.pt_model.specs.Tables.{end_of_table, is_spine, spine_position, starti
 use Rattle.pt_model.specs.Words.{tag, placed_at, placed_word, root_frame, root_level, frame_limit}
 use Rattle.pt_format.specs.Laws.{IsLayout}
 use Rattle.pt_view.specs.declared.view.View.{View}
-use Rattle.pt_view.specs.Lists.{one_if, times, IsIn, IsAmong}
+use Rattle.pt_model.specs.Sets.{one_if, IsAmong}
+use Rattle.pt_view.specs.Lists.{times, IsIn}
 use Rattle.pt_view.specs.Calls.{meets_span}
 use Rattle.pt_view.specs.Views.{spent}
 use Rattle.pt_rule.specs.Totals.{total, holds}

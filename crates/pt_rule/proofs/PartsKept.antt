@@ -16,7 +16,8 @@ use Rattle.pt_view.specs.declared.view.View.{View}
 use Rattle.pt_view.specs.declared.view.Node.{Node}
 use Rattle.pt_view.specs.declared.view.Piece.{Piece}
 use Rattle.pt_view.specs.declared.view.Prepared.{Prepared}
-use Rattle.pt_view.specs.Lists.{one_if, times, IsIn, IsAmong}
+use Rattle.pt_model.specs.Sets.{one_if, IsAmong}
+use Rattle.pt_view.specs.Lists.{times, IsIn}
 use Rattle.pt_view.specs.Pieces.{table_of}
 use Rattle.pt_view.specs.Calls.{meets_span, pieces_at}
 use Rattle.pt_view.specs.Views.{spent, SameRange, SameBook}

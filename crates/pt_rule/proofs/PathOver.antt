@@ -12,7 +12,7 @@ use Rattle.pt_model.specs.Tables.{parent_of, position_over}
 use Rattle.pt_format.specs.Laws.{IsLayout}
 use Rattle.pt_view.specs.declared.view.Node.{Node}
 use Rattle.pt_view.specs.declared.view.Piece.{Piece}
-use Rattle.pt_view.specs.Lists.{IsAmong}
+use Rattle.pt_model.specs.Sets.{IsAmong}
 use Rattle.pt_view.specs.Pieces.{first_of, level_of, words_of}
 use Rattle.pt_view.specs.Calls.{lowest}
 use Rattle.pt_rule.specs.Lawful.{Descends, IsChild}

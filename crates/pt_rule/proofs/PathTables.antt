@@ -5,7 +5,7 @@ use Rattle.std.specs.List.{AllByRecursion, range_with_len}
 use Rattle.std.proofs.lemmas.Bool.{cases_Bool, false≢true}
 use Rattle.pt_model.specs.declared.position.Position.{Position}
 use Rattle.pt_model.specs.Tables.{add_position, add_positions, is_before, levels_between}
-use Rattle.pt_view.specs.Lists.{IsAmong}
+use Rattle.pt_model.specs.Sets.{IsAmong}
 use Rattle.pt_rule.specs.Lawful.{InOrder}
 use Rattle.pt_rule.proofs.TotalsKept.{among_here, among_more, among_cases, among_all}
 use Rattle.pt_model.proofs.Positions.{add_after, add_there}

@@ -8,7 +8,8 @@ use Rattle.pt_model.specs.Words.{tag, placed_at, placed_word}
 use Rattle.pt_format.specs.Laws.{IsLayout}
 use Rattle.pt_view.specs.declared.view.View.{View}
 use Rattle.pt_view.specs.declared.view.Prepared.{Prepared}
-use Rattle.pt_view.specs.Lists.{one_if, times, IsIn}
+use Rattle.pt_model.specs.Sets.{one_if}
+use Rattle.pt_view.specs.Lists.{times, IsIn}
 use Rattle.pt_rule.specs.Totals.{total, prepares, bridge_in, is_prepared}
 use Rattle.pt_rule.specs.Tags.{placed, Chained, is_held, is_placed}
 use Rattle.pt_rule.specs.Kinds.{Keeps, place, rest_of}

@@ -11,7 +11,7 @@ use Rattle.pt_model.specs.Tables.{is_spine, levels_between, spine_position, star
 use Rattle.pt_model.specs.Words.{root_level, root_word}
 use Rattle.pt_format.specs.Laws.{IsLayout}
 use Rattle.pt_view.specs.declared.view.View.{View}
-use Rattle.pt_view.specs.Lists.{IsAmong}
+use Rattle.pt_model.specs.Sets.{IsAmong}
 use Rattle.pt_rule.specs.Linked.{is_in_tree}
 use Rattle.pt_rule.specs.Lawful.{Lawful}
 use Rattle.pt_rule.specs.Kinds.{Keeps, RaiseTells, raise, raised, over_top, with_spine, put}

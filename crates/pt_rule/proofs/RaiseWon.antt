@@ -17,7 +17,7 @@ use Rattle.pt_model.specs.Words.{entry_of, frame_address, placed_at, placed_word
 use Rattle.pt_format.specs.Laws.{IsLayout}
 use Rattle.pt_view.specs.declared.view.View.{View}
 use Rattle.pt_view.specs.declared.view.Prepared.{Prepared}
-use Rattle.pt_view.specs.Lists.{one_if, IsAmong}
+use Rattle.pt_model.specs.Sets.{one_if, IsAmong}
 use Rattle.pt_view.specs.Pieces.{table_of}
 use Rattle.pt_view.specs.Views.{SameRange}
 use Rattle.pt_view.specs.Calls.{meets_span}

@@ -13,7 +13,7 @@ use Rattle.pt_model.specs.Words.{tag, placed_at, root_level}
 use Rattle.pt_format.specs.Laws.{IsLayout}
 use Rattle.pt_view.specs.declared.view.View.{View}
 use Rattle.pt_view.specs.declared.view.Prepared.{Prepared}
-use Rattle.pt_view.specs.Lists.{IsAmong}
+use Rattle.pt_model.specs.Sets.{IsAmong}
 use Rattle.pt_rule.specs.Totals.{total, has_table, is_prepared}
 use Rattle.pt_rule.specs.Tags.{is_placed}
 use Rattle.pt_rule.specs.Linked.{IsLinked, IsLinkedAt, is_in_tree}

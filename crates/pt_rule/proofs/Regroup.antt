@@ -10,7 +10,7 @@ use Rattle.pt_model.specs.Tables.{child_at, end_of_table, is_spine}
 use Rattle.pt_model.specs.Words.{root_level, tag}
 use Rattle.pt_view.specs.declared.view.View.{View}
 use Rattle.pt_view.specs.declared.view.Piece.{Piece}
-use Rattle.pt_view.specs.Lists.{IsAmong, one_if}
+use Rattle.pt_model.specs.Sets.{IsAmong, one_if}
 use Rattle.pt_view.specs.Pieces.{table_of}
 use Rattle.pt_view.specs.Views.{spent}
 use Rattle.pt_view.specs.Calls.{meets_span}

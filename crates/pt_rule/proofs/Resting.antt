@@ -17,7 +17,7 @@ use Rattle.pt_model.specs.Book.{IsLawful, lies_in, table_meets}
 use Rattle.pt_format.specs.Laws.{IsLayout}
 use Rattle.pt_view.specs.declared.view.View.{View}
 use Rattle.pt_view.specs.declared.view.Piece.{Piece}
-use Rattle.pt_view.specs.Lists.{IsAmong}
+use Rattle.pt_model.specs.Sets.{IsAmong}
 use Rattle.pt_view.specs.Pieces.{all_pieces, first_of, pieces_of, words_of}
 use Rattle.pt_view.specs.Views.{IsAtRest, book_of}
 use Rattle.pt_rule.specs.Lawful.{Lawful, HasBook, InOrder, IsOwnPiece, IsOwnTable}

@@ -13,7 +13,7 @@ use Rattle.pt_model.specs.Tables.{is_spine, levels_between, spine_position, star
 use Rattle.pt_model.specs.Words.{root_level}
 use Rattle.pt_format.specs.Laws.{IsLayout}
 use Rattle.pt_view.specs.declared.view.View.{View}
-use Rattle.pt_view.specs.Lists.{IsAmong, places}
+use Rattle.pt_model.specs.Sets.{IsAmong, places}
 use Rattle.pt_rule.specs.Lawful.{Lawful, IsOwnTable}
 use Rattle.pt_rule.specs.Kinds.{Keeps, RootTells, after, load_root}
 use Rattle.pt_rule.proofs.TotalsKept.{places_append, among_cases, all_map}

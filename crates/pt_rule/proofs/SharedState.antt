@@ -11,7 +11,7 @@ use Rattle.pt_model.specs.declared.block.Prot.TheVariants.{Read}
 use Rattle.pt_model.specs.Tables.{end_of_table, is_same, is_spine, parent_of}
 use Rattle.pt_model.specs.Words.{tag, placed_at, entry_of, frame_address}
 use Rattle.pt_view.specs.declared.view.View.{View}
-use Rattle.pt_view.specs.Lists.{one_if, IsAmong}
+use Rattle.pt_model.specs.Sets.{one_if, IsAmong}
 use Rattle.pt_view.specs.Calls.{meets_span}
 use Rattle.pt_rule.specs.Totals.{total, Each, holds, prepares, has_table, has_piece, has_word, has_bridge}
 use Rattle.pt_rule.specs.Tags.{IsTag, is_held, is_placed}

@@ -11,7 +11,8 @@ use Rattle.pt_model.specs.Tables.{end_of_table, is_same, is_spine, parent_of, sp
 use Rattle.pt_model.specs.Words.{tag, placed_at, entry_of, frame_address, root_level}
 use Rattle.pt_view.specs.declared.view.View.{View}
 use Rattle.pt_view.specs.declared.view.Piece.{Piece}
-use Rattle.pt_view.specs.Lists.{one_if, IsIn, IsAmong}
+use Rattle.pt_model.specs.Sets.{one_if, IsAmong}
+use Rattle.pt_view.specs.Lists.{IsIn}
 use Rattle.pt_view.specs.Calls.{meets_span}
 use Rattle.pt_rule.specs.Totals.{total, Each, holds, prepares, has_table, has_piece, has_word}
 use Rattle.pt_rule.specs.Tags.{IsTag, held_word, is_held, is_placed}

@@ -6,7 +6,7 @@ use Rattle.std.proofs.lemmas.Bool.{cases_Bool, cases_order, false_from_ne_true, 
 use Rattle.pt_model.specs.declared.position.Position.{Position}
 use Rattle.pt_model.specs.Tables.{is_before, is_spine, add_position}
 use Rattle.pt_model.proofs.Positions.{before_trans, before_order, add_after, add_before, add_there}
-use Rattle.pt_view.specs.Lists.{IsAmong}
+use Rattle.pt_model.specs.Sets.{IsAmong}
 use Rattle.pt_view.specs.Calls.{with_table}
 use Rattle.pt_rule.specs.Lawful.{InOrder}
 use Rattle.pt_rule.proofs.TotalsKept.{among_here, among_more, among_cases, all_map}

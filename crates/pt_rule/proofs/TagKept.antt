@@ -5,7 +5,7 @@ use mathlib.Core.Option.{some}
 use lib.ListN.{get_elem?}
 use Rattle.pt_model.specs.Layout.{Layout}
 use Rattle.pt_view.specs.declared.view.View.{View}
-use Rattle.pt_view.specs.Lists.{IsAmong, places}
+use Rattle.pt_model.specs.Sets.{IsAmong, places}
 use Rattle.pt_view.specs.Views.{SameRange, SameBook}
 use Rattle.pt_rule.specs.Totals.{Each, prepares, has_table}
 use Rattle.pt_rule.specs.Tags.{IsEnd, Chained}

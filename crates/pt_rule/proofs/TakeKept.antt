@@ -9,7 +9,8 @@ use lib.ListN.{get_elem?}
 use Rattle.pt_model.specs.Layout.{Layout}
 use Rattle.pt_model.specs.Words.{tag}
 use Rattle.pt_view.specs.declared.view.View.{View}
-use Rattle.pt_view.specs.Lists.{one_if, times, IsIn}
+use Rattle.pt_model.specs.Sets.{one_if}
+use Rattle.pt_view.specs.Lists.{times, IsIn}
 use Rattle.pt_rule.specs.Totals.{total, holds, prepares}
 use Rattle.pt_rule.specs.Tags.{held, Chained, first_or, held_word, is_held, is_placed}
 use Rattle.pt_rule.specs.Lawful.{Lawful}

@@ -7,7 +7,7 @@ use Rattle.pt_model.specs.declared.position.Position.{Position}
 use Rattle.pt_model.specs.Tables.{child_at}
 use Rattle.pt_view.specs.declared.view.Absence.TheVariants.{Zero, Top}
 use Rattle.pt_view.specs.declared.view.Change.TheVariants.{Written, Cleared}
-use Rattle.pt_view.specs.Lists.{IsAmong}
+use Rattle.pt_model.specs.Sets.{IsAmong}
 use Rattle.pt_view.specs.Calls.{IsBare, MayDrop, MayUnlink, left}
 use Rattle.pt_rule.specs.Kinds.{MayCut, look, clear, unlink, unplace}
 use Rattle.pt_rule.proofs.TotalsKept.{among_cases, among_here}

@@ -11,7 +11,8 @@ use Rattle.atomic_table.proofs.Lists.{at_set}
 use Rattle.pt_model.specs.declared.position.Position.{Position}
 use Rattle.pt_model.specs.Tables.{is_same}
 use Rattle.pt_view.specs.declared.view.View.{View}
-use Rattle.pt_view.specs.Lists.{one_if, times, places, IsIn, IsAmong}
+use Rattle.pt_model.specs.Sets.{one_if, places, IsAmong}
+use Rattle.pt_view.specs.Lists.{times, IsIn}
 use Rattle.pt_rule.specs.Totals.{total, Each}
 
 module _ {V : Type 0} (f : V → ℕ) where

@@ -19,7 +19,7 @@ use Rattle.pt_format.specs.Manual.{StepsAgree}
 use Rattle.pt_view.specs.declared.view.View.{View}
 use Rattle.pt_view.specs.declared.view.Piece.{Piece}
 use Rattle.pt_view.specs.declared.view.Prepared.{Prepared}
-use Rattle.pt_view.specs.Lists.{places, IsAmong}
+use Rattle.pt_model.specs.Sets.{places, IsAmong}
 use Rattle.pt_view.specs.Pieces.{IsOneOf, first_of, table_of, number_of, level_of, word_of}
 use Rattle.pt_view.specs.Views.{spent}
 use Rattle.pt_view.specs.Calls.{entry_first, entry_end, is_under, pieces_at, meets_span, span_end}

@@ -18,7 +18,7 @@ use Rattle.pt_format.specs.Laws.{IsLayout}
 use Rattle.pt_view.specs.declared.view.View.{View}
 use Rattle.pt_view.specs.declared.view.Node.{Node}
 use Rattle.pt_view.specs.declared.view.Piece.{Piece}
-use Rattle.pt_view.specs.Lists.{places, IsAmong}
+use Rattle.pt_model.specs.Sets.{places, IsAmong}
 use Rattle.pt_view.specs.Pieces.{IsOneOf, first_of, table_of, number_of, level_of}
 use Rattle.pt_view.specs.Calls.{above, begins_under, entry_first, entry_end, is_under, lowest, meets_span, pieces_at, span_end}
 use Rattle.pt_rule.specs.Totals.{total, has_table, has_piece}

@@ -17,7 +17,7 @@ use Rattle.pt_view.specs.declared.view.View.{View}
 use Rattle.pt_view.specs.declared.view.Node.{Node}
 use Rattle.pt_view.specs.declared.view.Piece.{Piece}
 use Rattle.pt_view.specs.declared.view.Prepared.{Prepared}
-use Rattle.pt_view.specs.Lists.{one_if, places, IsAmong, without_position}
+use Rattle.pt_model.specs.Sets.{one_if, places, IsAmong, without_position}
 use Rattle.pt_view.specs.Pieces.{IsOneOf, table_of}
 use Rattle.pt_view.specs.Calls.{above, meets_span}
 use Rattle.pt_view.specs.Views.{spent, SameRange}

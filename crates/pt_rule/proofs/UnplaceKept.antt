@@ -5,7 +5,7 @@ use Rattle.pt_model.specs.Layout.{Layout}
 use Rattle.pt_model.specs.Words.{tag}
 use Rattle.pt_view.specs.declared.view.View.{View}
 use Rattle.pt_view.specs.declared.view.Prepared.{Prepared}
-use Rattle.pt_view.specs.Lists.{one_if}
+use Rattle.pt_model.specs.Sets.{one_if}
 use Rattle.pt_rule.specs.Totals.{bridge_in, is_prepared}
 use Rattle.pt_rule.specs.Tags.{held, Chained, first_or, held_word, is_held}
 use Rattle.pt_rule.specs.Kinds.{Keeps, unplace}

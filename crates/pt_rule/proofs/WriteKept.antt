@@ -15,7 +15,7 @@ use Rattle.pt_format.specs.Laws.{IsLayout}
 use Rattle.pt_view.specs.declared.view.View.{View}
 use Rattle.pt_view.specs.declared.view.Node.{Node}
 use Rattle.pt_view.specs.declared.view.Piece.{Piece}
-use Rattle.pt_view.specs.Lists.{IsAmong}
+use Rattle.pt_model.specs.Sets.{IsAmong}
 use Rattle.pt_view.specs.Pieces.{add_piece, first_of, table_of, number_of, level_of, word_of}
 use Rattle.pt_view.specs.Calls.{meets_span, off_spine, pieces_at, MayPut}
 use Rattle.pt_view.specs.Views.{SameRange}

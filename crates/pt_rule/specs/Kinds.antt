@@ -14,7 +14,8 @@ use Rattle.pt_view.specs.declared.view.Piece.{Piece}
 use Rattle.pt_view.specs.declared.view.Prepared.{Prepared}
 use Rattle.pt_view.specs.declared.view.Absence.TheVariants.{Zero, Top}
 use Rattle.pt_view.specs.declared.view.Change.TheVariants.{Written, Cleared}
-use Rattle.pt_view.specs.Lists.{IsIn, IsAmong, without_position}
+use Rattle.pt_model.specs.Sets.{IsAmong, without_position}
+use Rattle.pt_view.specs.Lists.{IsIn}
 use Rattle.pt_view.specs.Pieces.{IsOneOf, add_piece, number_of, table_of, word_of}
 use Rattle.pt_view.specs.Calls.{above, drop_at, lowest, entry_first, IsBare, IsEntryAt, IsVacant, MeetsEntry, MayDrop, MayInstall, MayPut, off_spine, pieces_at, with_table}
 use Rattle.pt_rule.specs.Tags.{IsEnd, first_or, held_word}

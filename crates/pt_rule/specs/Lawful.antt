@@ -13,7 +13,8 @@ use Rattle.pt_view.specs.declared.view.View.{View}
 use Rattle.pt_view.specs.declared.view.Node.{Node}
 use Rattle.pt_view.specs.declared.view.Piece.{Piece}
 use Rattle.pt_view.specs.declared.view.Prepared.{Prepared}
-use Rattle.pt_view.specs.Lists.{one_if, IsIn, IsAmong}
+use Rattle.pt_model.specs.Sets.{one_if, IsAmong}
+use Rattle.pt_view.specs.Lists.{IsIn}
 use Rattle.pt_view.specs.Pieces.{first_of, table_of, words_of}
 use Rattle.pt_view.specs.Calls.{is_in_span, meets_span}
 use Rattle.pt_view.specs.Views.{spent}

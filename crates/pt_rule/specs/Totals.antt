@@ -8,7 +8,8 @@ use Rattle.pt_model.specs.Words.{frame_address}
 use Rattle.pt_view.specs.declared.view.View.{View}
 use Rattle.pt_view.specs.declared.view.Piece.{Piece}
 use Rattle.pt_view.specs.declared.view.Prepared.{Prepared}
-use Rattle.pt_view.specs.Lists.{one_if, times, places}
+use Rattle.pt_model.specs.Sets.{one_if, places}
+use Rattle.pt_view.specs.Lists.{times}
 use Rattle.pt_view.specs.Pieces.{word_of}
 use Rattle.pt_view.specs.Calls.{pieces_at}
 

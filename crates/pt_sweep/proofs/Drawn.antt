@@ -3,7 +3,8 @@ use Rattle.std.proofs.Common.{◌≡◌, ⊎_elim, inl, inr, ℕ, zero, suc, ◌
 use Rattle.std.proofs.lemmas.Bool.{cases_eq, ne_eqb}
 use Rattle.std.proofs.lemmas.List.{append_assoc, append-nil}
 use Rattle.pt_view.specs.declared.view.View.{View}
-use Rattle.pt_view.specs.Lists.{one_if, times, IsIn}
+use Rattle.pt_model.specs.Sets.{one_if}
+use Rattle.pt_view.specs.Lists.{times, IsIn}
 use Rattle.pt_view.specs.Calls.{Takes}
 use Rattle.pt_sweep.specs.Draws.{FallBelow, Gains, GainsInOrder, IsTriedOnce, KeepsBook, RiseBelow, SamePlace}
 

@@ -1,7 +1,8 @@
 -- What a draw of frames does.
 use Rattle.std.specs.Prelude.{◌≡◌, ◌⊎◌, ℕ, ◌+◌, ◌<◌, ◌≤◌, List, [], ◌∷◌, ◌++◌, length}
 use Rattle.pt_view.specs.declared.view.View.{View}
-use Rattle.pt_view.specs.Lists.{IsIn, SamePositions}
+use Rattle.pt_model.specs.Sets.{SamePositions}
+use Rattle.pt_view.specs.Lists.{IsIn}
 use Rattle.pt_view.specs.Views.{SameRange, SameBook}
 
 -- the frames that the draw took, in front of those that were there

@@ -3,7 +3,7 @@
 ghost use Rattle.pt_view.specs.Views.{Stays};
 ghost use Rattle.std.specs.Prelude.{◌≡◌, ◌==◌, ℕ, ◌+◌, ◌<◌, ◌≤◌};
 ghost use Rattle.pt_view.specs.Lists.{AddsFrame, IsIn};
-ghost use Rattle.pt_view.specs.Calls.{HasEveryFrame, Takes, held_count};
+ghost use Rattle.pt_view.specs.Calls.{FillsSpace, HasEveryFrame, Takes};
 ghost use Rattle.pt_walk.specs.Walks.{Rests};
 ghost use Rattle.pt_sweep.specs.Draws.{Gains, GainsInOrder, KeepsBook, Finds, SamePlace};
 
@@ -17,7 +17,6 @@ use pt_view::Holder;
 /// found not free at a step of it.
 pub fn draw<F: Format, H: Holder<F>>(holder: &mut H, count: u32) -> u32
     ensures stays { Stays H.space H.aside H.alone holder.old holder.new }
-    ensures linked { H.alone holder.old → H.linked holder.new ≡ H.linked holder.old }
     ensures keeps { KeepsBook (H.view holder.old) (H.view holder.new) }
     ensures place { SamePlace (H.view holder.old) (H.view holder.new) }
     ensures rest { Rests F.layout (H.view holder.old) → Rests F.layout (H.view holder.new) }
@@ -29,7 +28,7 @@ pub fn draw<F: Format, H: Holder<F>>(holder: &mut H, count: u32) -> u32
     ensures stores { H.tells → (H.view holder.new).stores ≡ (H.view holder.old).stores }
     ensures every { result < count → HasEveryFrame (H.view holder.new) }
     ensures told { H.tells → Finds (H.view holder.old) (H.view holder.new) (λ frame. (frame < (H.view holder.old).frames) × (result < count)) }
-    ensures all { H.alone holder.old → result < count → H.linked holder.new + held_count (H.view holder.new) ≡ (H.view holder.new).frames }
+    ensures all { H.alone holder.old → result < count → FillsSpace (H.view holder.new) (H.aside holder.new) }
 {
     let mut taken = 0;
     for frame in 0..holder.frames() {
@@ -45,7 +44,6 @@ pub fn draw<F: Format, H: Holder<F>>(holder: &mut H, count: u32) -> u32
 fn try_one<F: Format, H: Holder<F>>(holder: &mut H, frame: u32) -> u32
     requires frame { frame < (H.view holder.old).frames }
     ensures stays { Stays H.space H.aside H.alone holder.old holder.new }
-    ensures linked { H.alone holder.old → H.linked holder.new ≡ H.linked holder.old }
     ensures keeps { KeepsBook (H.view holder.old) (H.view holder.new) }
     ensures place { SamePlace (H.view holder.old) (H.view holder.new) }
     ensures rest { Rests F.layout (H.view holder.old) → Rests F.layout (H.view holder.new) }
@@ -54,7 +52,7 @@ fn try_one<F: Format, H: Holder<F>>(holder: &mut H, frame: u32) -> u32
     ensures busy { AddsFrame (H.view holder.old).busy (H.view holder.new).busy frame }
     ensures absent { H.tells → (H.view holder.new).absent ≡ (H.view holder.old).absent }
     ensures stores { H.tells → (H.view holder.new).stores ≡ (H.view holder.old).stores }
-    ensures all { H.alone holder.old → HasEveryFrame (H.view holder.new) → H.linked holder.new + held_count (H.view holder.new) ≡ (H.view holder.new).frames }
+    ensures all { H.alone holder.old → HasEveryFrame (H.view holder.new) → FillsSpace (H.view holder.new) (H.aside holder.new) }
 {
     if holder.take(frame) { 1 } else { 0 }
 }

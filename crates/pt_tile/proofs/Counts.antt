@@ -5,9 +5,9 @@ use Rattle.std.specs.List.{range_with_len}
 use Rattle.std.proofs.lemmas.Bool.{cases_eq, eq-eqb, ne_eqb}
 use Rattle.pt_model.specs.declared.position.Position.{Position}
 use Rattle.pt_model.specs.Tables.{add_position, add_positions}
-use Rattle.pt_model.specs.Sets.{Member, IsSorted}
+use Rattle.pt_model.specs.Sets.{IsAmong, IsSorted}
 use Rattle.pt_tile.specs.Counting.{at_level}
-use Rattle.pt_model.proofs.Positions.{before_order, add_after, add_before, add_there, add_again, sorted_add, member_kept, member_added}
+use Rattle.pt_model.proofs.Positions.{before_order, add_after, add_before, add_there, add_again, sorted_add, among_kept, among_added, among_here, among_later}
 
 pub at_more : (l : ℕ) (q : Position) (qs : List Position) → q.level ≡ l → at_level l (q ∷ qs) ≡ at_level l qs + 1
 at_more l q qs e = let t : (q.level == l) ≡ true = eq-eqb q.level l e in rw t (omega arith)
@@ -22,14 +22,14 @@ at_head l q xs ys n e = elim (cases_eq q.level l) [
   | inr other ↦ omega (arith, at_same l q xs other, at_same l q ys other, e)
 ]
 
-pub at_new : (l : ℕ) (ps : List Position) (q : Position) → q.level ≡ l → (Member ps q → ⊥) →
+pub at_new : (l : ℕ) (ps : List Position) (q : Position) → q.level ≡ l → (IsAmong ps q → ⊥) →
     at_level l (add_position ps q) ≡ at_level l ps + 1
 at_new l [] q e new = at_more l q [] e
 at_new l (r ∷ rs) q e new =
     elim (before_order r q) [
-      | inl before ↦ ap (at_level l) (add_after r rs q before) ∙ at_head l r (add_position rs q) rs 1 (at_new l rs q e (λ m. new (inr m)))
+      | inl before ↦ ap (at_level l) (add_after r rs q before) ∙ at_head l r (add_position rs q) rs 1 (at_new l rs q e (λ m. new (among_later r rs q m)))
       | inr other ↦ elim other [
-        | inl same ↦ absurd (new (inl same))
+        | inl same ↦ absurd (new (among_here r rs q same))
         | inr after ↦ ap (at_level l) (add_before r rs q after) ∙ at_more l q (r ∷ rs) e
       ]
     ]
@@ -60,17 +60,17 @@ levels_other l h level_is (suc m) low ps out =
     ∙ at_other l ps (h low) apart
 
 pub levels_new : (l : ℕ) (h : ℕ → Position) → ((k : ℕ) → (h k).level ≡ k) → (m low : ℕ) (ps : List Position) →
-    low ≤ l → l < low + m → (Member ps (h l) → ⊥) →
+    low ≤ l → l < low + m → (IsAmong ps (h l) → ⊥) →
     at_level l (add_positions ps (map h (range_with_len low m))) ≡ at_level l ps + 1
 levels_new l h level_is zero low ps from to new = absurd (omega arith)
 levels_new l h level_is (suc m) low ps from to new =
     elim (cases_eq low l) [
       | inl here ↦
           levels_other l h level_is m (low + 1) (add_position ps (h low)) (inl (omega arith))
-          ∙ at_new l ps (h low) (level_is low ∙ here) (λ o. new (subst (λ (k : ℕ). Member ps (h k)) here o))
+          ∙ at_new l ps (h low) (level_is low ∙ here) (λ o. new (subst (λ (k : ℕ). IsAmong ps (h k)) here o))
       | inr other ↦
           levels_new l h level_is m (low + 1) (add_position ps (h low)) (omega arith) (omega arith)
-          (λ o. elim (member_added ps (h low) (h l) o) [
+          (λ o. elim (among_added ps (h low) (h l) o) [
             | inl old ↦ new old
             | inr e ↦ other (sym (level_is low) ∙ ap (λ (p : Position). p.level) e ∙ level_is l)
           ])
@@ -78,13 +78,13 @@ levels_new l h level_is (suc m) low ps from to new =
     ]
 
 pub levels_again : (l : ℕ) (h : ℕ → Position) → ((k : ℕ) → (h k).level ≡ k) → (m low : ℕ) (ps : List Position) →
-    IsSorted ps → Member ps (h l) →
+    IsSorted ps → IsAmong ps (h l) →
     at_level l (add_positions ps (map h (range_with_len low m))) ≡ at_level l ps
 levels_again l h level_is zero low ps s there = refl
 levels_again l h level_is (suc m) low ps s there =
-    levels_again l h level_is m (low + 1) (add_position ps (h low)) (sorted_add ps (h low) s) (member_kept ps (h low) (h l) there)
+    levels_again l h level_is m (low + 1) (add_position ps (h low)) (sorted_add ps (h low) s) (among_kept ps (h low) (h l) there)
     ∙ elim (cases_eq low l) [
-      | inl here ↦ ap (at_level l) (add_again ps (h low) s (subst (λ (k : ℕ). Member ps (h k)) (sym here) there))
+      | inl here ↦ ap (at_level l) (add_again ps (h low) s (subst (λ (k : ℕ). IsAmong ps (h k)) (sym here) there))
       | inr other ↦ at_other l ps (h low) (λ e. other (sym (level_is low) ∙ e))
     ]
 

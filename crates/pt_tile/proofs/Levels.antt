@@ -8,10 +8,10 @@ use Rattle.pt_model.specs.Layout.{Layout, input_pages, output_pages, pages_of_ta
 use Rattle.pt_model.specs.declared.position.Position.{Position}
 use Rattle.pt_model.specs.Tables.{position_over, spine_position, levels_between, least_top, needed, add_positions}
 use Rattle.pt_model.specs.Tiling.{IsGreatestSize, block_at}
-use Rattle.pt_model.specs.Sets.{Member, IsSorted}
+use Rattle.pt_model.specs.Sets.{IsAmong, IsSorted}
 use Rattle.pt_tile.specs.Counting.{at_level}
 use Rattle.pt_tile.specs.Sizes.{IsLarger}
-use Rattle.pt_model.proofs.Positions.{member_adds, sorted_adds, member_level, level_member}
+use Rattle.pt_model.proofs.Positions.{among_adds, sorted_adds, level_of_member, level_member}
 use Rattle.pt_tile.proofs.Counts.{levels_other, levels_new, levels_again, adds_append}
 use Rattle.pt_tile.proofs.Begun.{begun_at, begun_in, begun_part, part_in, coarse_is_fine, aligned_sum, same_table}
 use Rattle.pt_tile.proofs.Uncovered.{uncovered, step_below, step_above}
@@ -20,10 +20,10 @@ use Rattle.pt_model.proofs.Tops.{top_low, top_mono, above_top}
 -- what a list of positions has at a level, where a tiling has come to a page
 pub record IsUpTo (g : Layout) (n l s : ℕ) (ps : List Position) : Type 0 where
   pub sorted : IsSorted ps
-  pub before : (p : Position) → p.level ≡ l → Member ps p → p.base < s
-  pub inside : l ≤ least_top g n s → s % pages_of_table g l ≢ 0 → Member ps (position_over g s l)
-  pub spine : n - 1 ≤ l → l ≤ least_top g n s → Member ps (spine_position l)
-  pub below_top : (p : Position) → p.level ≡ l → Member ps p → l ≤ least_top g n s
+  pub before : (p : Position) → p.level ≡ l → IsAmong ps p → p.base < s
+  pub inside : l ≤ least_top g n s → s % pages_of_table g l ≢ 0 → IsAmong ps (position_over g s l)
+  pub spine : n - 1 ≤ l → l ≤ least_top g n s → IsAmong ps (spine_position l)
+  pub below_top : (p : Position) → p.level ≡ l → IsAmong ps p → l ≤ least_top g n s
 
 -- the lists that a block adds
 abbrev pub over_of : Layout → ℕ → ℕ → ℕ → ℕ → List Position
@@ -34,42 +34,42 @@ spine_of n top = map spine_position (levels_between (n - 1) top)
 
 -- the members of a run of levels
 pub in_levels : (h : ℕ → Position) → ((k : ℕ) → (h k).level ≡ k) → (low top : ℕ) (p : Position) →
-    Member (map h (levels_between low top)) p → (low ≤ p.level) × (p.level ≤ top) × (h p.level ≡ p)
+    IsAmong (map h (levels_between low top)) p → (low ≤ p.level) × (p.level ≤ top) × (h p.level ≡ p)
 in_levels h level_is low top p m =
-    let a = member_level h (top + 1 - low) low p m in
+    let a = level_of_member h (top + 1 - low) low p m in
     let same : p.level ≡ a.0 = ap (λ (q : Position). q.level) (sym a.3) ∙ level_is a.0 in
     (omega (arith, same, a.1), omega (arith, same, a.1, a.2), ap h same ∙ a.3)
 
-pub levels_in : (h : ℕ → Position) (low top k : ℕ) → low ≤ k → k ≤ top → Member (map h (levels_between low top)) (h k)
+pub levels_in : (h : ℕ → Position) (low top k : ℕ) → low ≤ k → k ≤ top → IsAmong (map h (levels_between low top)) (h k)
 levels_in h low top k from to = level_member h (top + 1 - low) low k from (omega arith)
 
 -- the members after a block
 abbrev pub after : Layout → ℕ → ℕ → ℕ → ℕ → List Position → List Position
 after g n s k top ps = add_positions (add_positions ps (over_of g n s k top)) (spine_of n top)
 
-pub after_cases : (g : Layout) (n s k top : ℕ) (ps : List Position) (p : Position) → Member (after g n s k top ps) p →
-    Member ps p ⊎ (((level_of_size g k ≤ p.level) × (p.level ≤ top) × (position_over g s p.level ≡ p)) ⊎ ((n - 1 ≤ p.level) × (p.level ≤ top) × (spine_position p.level ≡ p)))
+pub after_cases : (g : Layout) (n s k top : ℕ) (ps : List Position) (p : Position) → IsAmong (after g n s k top ps) p →
+    IsAmong ps p ⊎ (((level_of_size g k ≤ p.level) × (p.level ≤ top) × (position_over g s p.level ≡ p)) ⊎ ((n - 1 ≤ p.level) × (p.level ≤ top) × (spine_position p.level ≡ p)))
 after_cases g n s k top ps p m =
-    elim ((member_adds (spine_of n top) (add_positions ps (over_of g n s k top)) p).0 m) [
-      | inl first ↦ elim ((member_adds (over_of g n s k top) ps p).0 first) [
+    elim ((among_adds (spine_of n top) (add_positions ps (over_of g n s k top)) p).0 m) [
+      | inl first ↦ elim ((among_adds (over_of g n s k top) ps p).0 first) [
         | inl old ↦ inl old
         | inr over ↦ inr (inl (in_levels (position_over g s) (λ i. refl) (level_of_size g k) top p over))
       ]
       | inr spine ↦ inr (inr (in_levels spine_position (λ i. refl) (n - 1) top p spine))
     ]
 
-after_old : (g : Layout) (n s k top : ℕ) (ps : List Position) (p : Position) → Member ps p → Member (after g n s k top ps) p
+after_old : (g : Layout) (n s k top : ℕ) (ps : List Position) (p : Position) → IsAmong ps p → IsAmong (after g n s k top ps) p
 after_old g n s k top ps p m =
-    (member_adds (spine_of n top) (add_positions ps (over_of g n s k top)) p).1 (inl ((member_adds (over_of g n s k top) ps p).1 (inl m)))
+    (among_adds (spine_of n top) (add_positions ps (over_of g n s k top)) p).1 (inl ((among_adds (over_of g n s k top) ps p).1 (inl m)))
 
-after_over : (g : Layout) (n s k top l : ℕ) (ps : List Position) → level_of_size g k ≤ l → l ≤ top → Member (after g n s k top ps) (position_over g s l)
+after_over : (g : Layout) (n s k top l : ℕ) (ps : List Position) → level_of_size g k ≤ l → l ≤ top → IsAmong (after g n s k top ps) (position_over g s l)
 after_over g n s k top l ps from to =
-    (member_adds (spine_of n top) (add_positions ps (over_of g n s k top)) (position_over g s l)).1
-    (inl ((member_adds (over_of g n s k top) ps (position_over g s l)).1 (inr (levels_in (position_over g s) (level_of_size g k) top l from to))))
+    (among_adds (spine_of n top) (add_positions ps (over_of g n s k top)) (position_over g s l)).1
+    (inl ((among_adds (over_of g n s k top) ps (position_over g s l)).1 (inr (levels_in (position_over g s) (level_of_size g k) top l from to))))
 
-after_spine : (g : Layout) (n s k top l : ℕ) (ps : List Position) → n - 1 ≤ l → l ≤ top → Member (after g n s k top ps) (spine_position l)
+after_spine : (g : Layout) (n s k top l : ℕ) (ps : List Position) → n - 1 ≤ l → l ≤ top → IsAmong (after g n s k top ps) (spine_position l)
 after_spine g n s k top l ps from to =
-    (member_adds (spine_of n top) (add_positions ps (over_of g n s k top)) (spine_position l)).1 (inr (levels_in spine_position (n - 1) top l from to))
+    (among_adds (spine_of n top) (add_positions ps (over_of g n s k top)) (spine_position l)).1 (inr (levels_in spine_position (n - 1) top l from to))
 
 -- what the lists of a block add to a level
 
@@ -79,12 +79,12 @@ over_none g n s k top l ps low out =
     levels_other l (position_over g s) (λ i. refl) (top + 1 - level_of_size g k) (level_of_size g k) ps
     (elim out [ inl b ↦ inl b | inr a ↦ inr (omega arith) ])
 
-pub over_new : (g : Layout) (n s k top l : ℕ) (ps : List Position) → level_of_size g k ≤ l → l ≤ top → (Member ps (position_over g s l) → ⊥) →
+pub over_new : (g : Layout) (n s k top l : ℕ) (ps : List Position) → level_of_size g k ≤ l → l ≤ top → (IsAmong ps (position_over g s l) → ⊥) →
     at_level l (add_positions ps (over_of g n s k top)) ≡ at_level l ps + 1
 over_new g n s k top l ps from to new =
     levels_new l (position_over g s) (λ i. refl) (top + 1 - level_of_size g k) (level_of_size g k) ps from (omega arith) new
 
-pub over_again : (g : Layout) (n s k top l : ℕ) (ps : List Position) → IsSorted ps → Member ps (position_over g s l) →
+pub over_again : (g : Layout) (n s k top l : ℕ) (ps : List Position) → IsSorted ps → IsAmong ps (position_over g s l) →
     at_level l (add_positions ps (over_of g n s k top)) ≡ at_level l ps
 over_again g n s k top l ps sorted m =
     levels_again l (position_over g s) (λ i. refl) (top + 1 - level_of_size g k) (level_of_size g k) ps sorted m
@@ -94,11 +94,11 @@ pub spine_none : (n top l : ℕ) (ps : List Position) → n - 1 ≤ top → (l <
 spine_none n top l ps low out =
     levels_other l spine_position (λ i. refl) (top + 1 - (n - 1)) (n - 1) ps (elim out [ inl b ↦ inl b | inr a ↦ inr (omega arith) ])
 
-pub spine_new : (n top l : ℕ) (ps : List Position) → n - 1 ≤ l → l ≤ top → (Member ps (spine_position l) → ⊥) →
+pub spine_new : (n top l : ℕ) (ps : List Position) → n - 1 ≤ l → l ≤ top → (IsAmong ps (spine_position l) → ⊥) →
     at_level l (add_positions ps (spine_of n top)) ≡ at_level l ps + 1
 spine_new n top l ps from to new = levels_new l spine_position (λ i. refl) (top + 1 - (n - 1)) (n - 1) ps from (omega arith) new
 
-pub spine_again : (n top l : ℕ) (ps : List Position) → IsSorted ps → Member ps (spine_position l) →
+pub spine_again : (n top l : ℕ) (ps : List Position) → IsSorted ps → IsAmong ps (spine_position l) →
     at_level l (add_positions ps (spine_of n top)) ≡ at_level l ps
 spine_again n top l ps sorted m = levels_again l spine_position (λ i. refl) (top + 1 - (n - 1)) (n - 1) ps sorted m
 
@@ -119,7 +119,7 @@ over_first g s l h =
 -- the place that a tiling has come to after a block
 pub up_to_next : (g : Layout) (n l s k : ℕ) (ps : List Position) → 0 < g.index → level_of_size g k ≤ n - 1 → s % 2 ^ k ≡ 0 →
     IsSorted ps →
-    ((p : Position) → p.level ≡ l → Member ps p → (p.base < s) × (l ≤ least_top g n s)) →
+    ((p : Position) → p.level ≡ l → IsAmong ps p → (p.base < s) × (l ≤ least_top g n s)) →
     IsUpTo g n l (s + 2 ^ k) (after g n s k (least_top g n (s + 2 ^ k)) ps)
 up_to_next g n l s k ps index low aligned sorted old =
     let wider : least_top g n s ≤ least_top g n (s + 2 ^ k) = top_mono g n s (s + 2 ^ k) (omega arith) in
@@ -140,7 +140,7 @@ up_to_next g n l s k ps index low aligned sorted old =
         | inl small ↦
             let lies : s % 2 ^ (g.index * (l + 1)) + 2 ^ k ≤ 2 ^ (g.index * (l + 1)) = part_in (g.index * (l + 1)) k s (omega arith) aligned in
             let same : (s + 2 ^ k) / 2 ^ (g.index * (l + 1)) ≡ s / 2 ^ (g.index * (l + 1)) = same_table (g.index * (l + 1)) s (2 ^ k) lies part in
-            subst (λ (q : ℕ). Member (after g n s k (least_top g n (s + 2 ^ k)) ps) (record { level = l; base = q * pages_of_table g l })) (sym same)
+            subst (λ (q : ℕ). IsAmong (after g n s k (least_top g n (s + 2 ^ k)) ps) (record { level = l; base = q * pages_of_table g l })) (sym same)
             (after_over g n s k (least_top g n (s + 2 ^ k)) l ps (size_low g.index k l index small) reach)
         | inr large ↦
             absurd (part (aligned_sum (g.index * (l + 1)) k s large (coarse_is_fine (g.index * (l + 1)) k s large aligned)))
@@ -221,7 +221,7 @@ step_low g n l s out end left k larger ps b up reach =
     elim (cases_lt l (n - 1)) [
       | inl below ↦ spine_none n (least_top g n (s + 2 ^ k)) l _ low (inl below)
       | inr from ↦ spine_again n (least_top g n (s + 2 ^ k)) l _ sorted
-          ((member_adds (over_of g n s k (least_top g n (s + 2 ^ k))) ps (spine_position l)).1 (inl (up.spine from reach)))
+          ((among_adds (over_of g n s k (least_top g n (s + 2 ^ k))) ps (spine_position l)).1 (inl (up.spine from reach)))
     ] in
     elim (cases_lt k (size g l)) [
       | inr large ↦
@@ -261,9 +261,9 @@ step_high g n l s out end left k larger ps b up some above =
       | inr reach ↦
           let new = over_new g n s k (least_top g n (s + 2 ^ k)) l ps (size_low g.index k l b.index_some small) reach
           (λ m. omega (arith, up.below_top (position_over g s l) refl m)) in
-          let there : Member (add_positions ps (over_of g n s k (least_top g n (s + 2 ^ k)))) (spine_position l) =
-          subst (λ p. Member (add_positions ps (over_of g n s k (least_top g n (s + 2 ^ k)))) p) (over_first g s l place)
-          ((member_adds (over_of g n s k (least_top g n (s + 2 ^ k))) ps (position_over g s l)).1
+          let there : IsAmong (add_positions ps (over_of g n s k (least_top g n (s + 2 ^ k)))) (spine_position l) =
+          subst (λ p. IsAmong (add_positions ps (over_of g n s k (least_top g n (s + 2 ^ k)))) p) (over_first g s l place)
+          ((among_adds (over_of g n s k (least_top g n (s + 2 ^ k))) ps (position_over g s l)).1
           (inr (levels_in (position_over g s) (level_of_size g k) (least_top g n (s + 2 ^ k)) l (size_low g.index k l b.index_some small) reach))) in
           let spine = spine_again n (least_top g n (s + 2 ^ k)) l _ sorted there in
           omega (arith, new, spine, same)

@@ -11,10 +11,10 @@ use Rattle.pt_model.specs.declared.position.Position.{Position}
 use Rattle.pt_model.specs.Tables.{position_over, spine_position, least_top, needed, add_positions, all_needed}
 use Rattle.pt_model.specs.Tiling.{IsTiling, IsGreatestSize, tiling}
 use Rattle.pt_model.proofs.TilingFacts.{tiling_is}
-use Rattle.pt_model.specs.Sets.{Member, IsSorted}
+use Rattle.pt_model.specs.Sets.{IsAmong, IsSorted}
 use Rattle.pt_tile.specs.Counting.{at_level, levels_below, begun, tables_over}
 use Rattle.pt_tile.specs.Sizes.{IsLarger}
-use Rattle.pt_model.proofs.Positions.{member_adds, sorted_adds}
+use Rattle.pt_model.proofs.Positions.{among_adds, among_here, among_later, among_none, sorted_adds}
 use Rattle.pt_tile.proofs.Begun.{begun_at, begun_part, coarse_is_fine}
 use Rattle.pt_tile.proofs.Uncovered.{uncovered, uncovered_end, larger_moves, over_is}
 use Rattle.pt_format.specs.Laws.{IsLayout}
@@ -71,10 +71,10 @@ rest_counts g n l end prot larger r reach (b ∷ bs) s out left ps ends ho some 
     ap (λ (qs : List Position). at_level l (all_from g n qs bs)) added ∙ rest ∙ step
 
 -- a table that begins after page 0 is not of the spine
-first_not_spine : (g : Layout) (n s k top l : ℕ) → 2 ^ size g l ≤ s → Member (add_positions [] (over_of g n s k top)) (spine_position l) → ⊥
+first_not_spine : (g : Layout) (n s k top l : ℕ) → 2 ^ size g l ≤ s → IsAmong (add_positions [] (over_of g n s k top)) (spine_position l) → ⊥
 first_not_spine g n s k top l far m =
-    elim ((member_adds (over_of g n s k top) [] (spine_position l)).0 m) [
-      | inl none ↦ none
+    elim ((among_adds (over_of g n s k top) [] (spine_position l)).0 m) [
+      | inl none ↦ among_none (spine_position l) none
       | inr over ↦
           let h = in_levels (position_over g s) (λ i. refl) (level_of_size g k) top (spine_position l) over in
           let base : s / 2 ^ size g l * 2 ^ size g l ≡ 0 = ap (λ (q : Position). q.base) h.2 in
@@ -113,7 +113,7 @@ first_adds g n l s out end left k d extra larger b reach e x =
             let no_extra : extra ≡ 0 = elim x [ inl one ↦ absurd (omega (arith, one.0, under, b.level_low)) | inr nope ↦ nope.1 ] in
             omega (arith, none, spine, no_extra, e, begun_at (size g l) s aligned, takes_tables g n l s out end left k larger b large)
         | inl small ↦
-            let new = over_new g n s k (least_top g n (s + 2 ^ k)) l [] (size_low g.index k l b.index_some small) here (λ m. absurd m) in
+            let new = over_new g n s k (least_top g n (s + 2 ^ k)) l [] (size_low g.index k l b.index_some small) here (among_none (position_over g s l)) in
             let spine : at_level l (next_list g n s k []) ≡ at_level l (add_positions [] (over_of g n s k (least_top g n (s + 2 ^ k)))) + extra =
             elim x [
               | inl one ↦
@@ -126,8 +126,8 @@ first_adds g n l s out end left k d extra larger b reach e x =
                   | inl below ↦ spine_none n (least_top g n (s + 2 ^ k)) l (add_positions [] (over_of g n s k (least_top g n (s + 2 ^ k)))) low (inl below) ∙ omega (arith, nope.1)
                   | inr from ↦
                       spine_again n (least_top g n (s + 2 ^ k)) l (add_positions [] (over_of g n s k (least_top g n (s + 2 ^ k)))) sorted
-                      (subst (λ p. Member (add_positions [] (over_of g n s k (least_top g n (s + 2 ^ k)))) p) (over_first g s l place)
-                      ((member_adds (over_of g n s k (least_top g n (s + 2 ^ k))) [] (position_over g s l)).1
+                      (subst (λ p. IsAmong (add_positions [] (over_of g n s k (least_top g n (s + 2 ^ k)))) p) (over_first g s l place)
+                      ((among_adds (over_of g n s k (least_top g n (s + 2 ^ k))) [] (position_over g s l)).1
                       (inr (levels_in (position_over g s) (level_of_size g k) (least_top g n (s + 2 ^ k)) l (size_low g.index k l b.index_some small) here))))
                       ∙ omega (arith, nope.1)
                 ]
@@ -152,7 +152,7 @@ first_counts g n l end prot larger r reach (b ∷ bs) s out left d extra ends ho
     let added : add_positions [] (needed g n b) ≡ next_list g n s b.log2 [] =
     ap (λ (y : Block). add_positions [] (needed g n y)) t.0 ∙ block_adds g n s b.log2 out prot [] in
     let next : IsUpTo g n l (s + 2 ^ b.log2) (next_list g n s b.log2 []) =
-    up_to_next g n l s b.log2 [] r.index_some (r.sizes_low b.log2 t.1.legal.a_size) t.1.legal.first_aligned tt (λ p here m. absurd m) in
+    up_to_next g n l s b.log2 [] r.index_some (r.sizes_low b.log2 t.1.legal.a_size) t.1.legal.first_aligned tt (λ p here m. absurd (among_none p m)) in
     let rest : at_level l (all_from g n (next_list g n s b.log2 []) bs) ≡ at_level l (next_list g n s b.log2 []) + rest_at g n l (s + 2 ^ b.log2) end larger =
     rest_counts g n l end prot larger r reach bs (s + 2 ^ b.log2) (out + 2 ^ b.log2) (left - 2 ^ b.log2) (next_list g n s b.log2 [])
     (omega (arith, t.1.fits)) (omega (arith, t.1.fits)) (omega (arith, pow_pos b.log2))
@@ -187,8 +187,8 @@ level_counts g n l first out count extra prot larger zero_size r reach ho some l
 -- no position lies above the top
 rest_below : (g : Layout) (n end : ℕ) (prot : Prot) → ((k : ℕ) → IsTrue (is_size g k) → level_of_size g k ≤ n - 1) →
     (bs : List Block) (s out left : ℕ) (ps : List Position) → s + left ≡ end → IsTiling g prot s out left bs →
-    ((p : Position) → Member ps p → p.level ≤ least_top g n end) →
-    (p : Position) → Member (all_from g n ps bs) p → p.level ≤ least_top g n end
+    ((p : Position) → IsAmong ps p → p.level ≤ least_top g n end) →
+    (p : Position) → IsAmong (all_from g n ps bs) p → p.level ≤ least_top g n end
 rest_below g n end prot low [] s out left ps ends none below p m = below p m
 rest_below g n end prot low (b ∷ bs) s out left ps ends t below p m =
     let added : add_positions ps (needed g n b) ≡ next_list g n s b.log2 ps =
@@ -199,21 +199,21 @@ rest_below g n end prot low (b ∷ bs) s out left ps ends t below p m =
       | inl was ↦ below q was
       | inr new ↦ elim new [ inl over ↦ omega (arith, over.1) | inr spine ↦ omega (arith, spine.1) ]
     ])
-    p (subst (λ (qs : List Position). Member (all_from g n qs bs) p) added m)
+    p (subst (λ (qs : List Position). IsAmong (all_from g n qs bs) p) added m)
 
 pub needed_below : (g : Layout) (n first out count : ℕ) (prot : Prot) → IsTrue (is_size g 0) →
     ((k : ℕ) → IsTrue (is_size g k) → level_of_size g k ≤ n - 1) →
     first + count ≤ input_pages g → out + count ≤ output_pages g →
-    (p : Position) → Member (all_needed g n (tiling g prot first out count)) p → p.level ≤ least_top g n (first + count)
+    (p : Position) → IsAmong (all_needed g n (tiling g prot first out count)) p → p.level ≤ least_top g n (first + count)
 needed_below g n first out count prot zero_size low hi ho p m =
     rest_below g n (first + count) prot low (tiling g prot first out count) first out count [] refl
-    (tiling_is g prot first out count zero_size hi ho) (λ q o. absurd o) p m
+    (tiling_is g prot first out count zero_size hi ho) (λ q o. absurd (among_none q o)) p m
 
 -- a list by its levels
 
-pub none_at : (l : ℕ) (ps : List Position) → ((p : Position) → Member ps p → p.level ≢ l) → at_level l ps ≡ 0
+pub none_at : (l : ℕ) (ps : List Position) → ((p : Position) → IsAmong ps p → p.level ≢ l) → at_level l ps ≡ 0
 none_at l [] h = refl
-none_at l (q ∷ qs) h = at_same l q qs (h q (inl refl)) ∙ none_at l qs (λ p m. h p (inr m))
+none_at l (q ∷ qs) h = at_same l q qs (h q (among_here q qs q refl)) ∙ none_at l qs (λ p m. h p (among_later q qs p m))
 
 below_none : (m : ℕ) → levels_below m [] ≡ 0
 below_none zero = refl
@@ -230,9 +230,9 @@ below_in (suc m) q qs h = elim (cases_eq q.level m) [
   | inr other ↦ omega (arith, below_in m q qs (omega arith), at_same m q qs other)
 ]
 
-pub by_levels : (m : ℕ) (ps : List Position) → ((p : Position) → Member ps p → p.level < m) → levels_below m ps ≡ length ps
+pub by_levels : (m : ℕ) (ps : List Position) → ((p : Position) → IsAmong ps p → p.level < m) → levels_below m ps ≡ length ps
 by_levels m [] h = below_none m
-by_levels m (q ∷ qs) h = below_in m q qs (h q (inl refl)) ∙ omega (arith, by_levels m qs (λ p o. h p (inr o)))
+by_levels m (q ∷ qs) h = below_in m q qs (h q (among_here q qs q refl)) ∙ omega (arith, by_levels m qs (λ p o. h p (among_later q qs p o)))
 
 pub below_more : (l : ℕ) (ps : List Position) → levels_below (l + 1) ps ≡ levels_below l ps + at_level l ps
 below_more l ps = let e : l + 1 ≡ suc l = omega arith in ap (λ (m : ℕ). levels_below m ps) e

@@ -14,9 +14,10 @@ use Rattle.pt_view.specs.declared.holder.Seen.{Seen}
 use Rattle.pt_view.specs.declared.holder.Seen.TheVariants.{Empty, Leaf, Entered}
 use Rattle.pt_view.specs.declared.holder.Won.{Won}
 use Rattle.pt_view.specs.declared.holder.Won.TheVariants.{Yes, Met}
-use Rattle.pt_view.specs.Lists.{one_if, IsIn, IsAmong, SameFrames, AddsFrame, SamePositions, AddsPositions, RemovesPosition, without_position}
+use Rattle.pt_model.specs.Sets.{one_if, IsAmong, SamePositions, AddsPositions, RemovesPosition, without_position}
+use Rattle.pt_view.specs.Lists.{IsIn, SameFrames, AddsFrame}
 use Rattle.pt_view.specs.Pieces.{IsOneOf, add_piece, add_pieces, pieces_by, first_of, table_of, number_of, word_of, words_of}
-use Rattle.pt_view.specs.Views.{SameRange, SameBook, SamePurse, SameHistory}
+use Rattle.pt_view.specs.Views.{Aside, SameRange, SameBook, SamePurse, SameHistory, linked_count}
 
 -- Entries of the path's last table.
 
@@ -172,10 +173,11 @@ abbrev pub Prepares : Won → (v w : View) → Type 0
 Prepares Yes v w = w.prepared ≡ None
 Prepares Met v w = w.prepared ≡ v.prepared
 
--- over a lone holder a table that an install meets is one of its book or of the spine
-abbrev pub MeetsOwn : Layout → (number : ℕ) → View → Won → Type 0
-MeetsOwn f number v Yes = Unit {0}
-MeetsOwn f number v Met = (p : Position) → IsEntryAt f v p number → IsAmong v.tables (child_at f p number) ⊎ IsTrue (is_spine v.levels (child_at f p number))
+-- What an install finds at the entry: where it wins, nothing, and the table is off the spine; where it meets a table,
+-- over a lone holder that one is of its book or of the spine.
+abbrev pub InstallFinds : Layout → (alone : Type 0) → (number : ℕ) → View → Won → Type 0
+InstallFinds f alone number v Yes = (p : Position) → IsEntryAt f v p number → IsVacant f v p number × (is_spine v.levels (child_at f p number) ≡ false)
+InstallFinds f alone number v Met = alone → (p : Position) → IsEntryAt f v p number → IsAmong v.tables (child_at f p number) ⊎ IsTrue (is_spine v.levels (child_at f p number))
 
 pub record IsInstalled (f : Layout) (tells : Type 0) (number : ℕ) (v : View) (won : Won) (w : View) : Type 0 where
   pub range : SameRange v w
@@ -386,10 +388,12 @@ prepared_count (Some x) = 1
 abbrev pub held_count : View → ℕ
 held_count v = length v.purse + prepared_count v.prepared
 
--- the frames that an install links
-abbrev pub links : Won → ℕ
-links Yes = 1
-links Met = 0
-
 abbrev pub HasEveryFrame : View → Type 0
 HasEveryFrame v = (frame : ℕ) → frame < v.frames → IsIn v.busy frame
+
+-- the linked, held and prepared frames of a lone holder are all of its space, and no more than these
+abbrev pub FillsSpace : View → Aside → Type 0
+FillsSpace v aside = linked_count v aside + held_count v ≡ v.frames
+
+abbrev pub FitsSpace : View → Aside → Type 0
+FitsSpace v aside = linked_count v aside + held_count v ≤ v.frames

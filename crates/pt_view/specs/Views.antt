@@ -71,6 +71,10 @@ pub record Aside : Type 0 where
   pub blocks : List Block
   pub positions : List Position
 
+-- the linked positions of the words of a lone holder: its tables, the spine up to its top, and those set aside
+abbrev pub linked_count : View → Aside → ℕ
+linked_count v aside = linked_of v + length aside.positions
+
 -- a call leaves the space that the holder is of and what it has set aside, and a holder that was alone is alone
 pub record Stays {X S : Type 0} (space : X → S) (aside : X → Aside) (alone : X → Type 0) (old new : X) : Type 0 where
   pub same_space : space new ≡ space old

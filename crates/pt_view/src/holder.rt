@@ -7,8 +7,8 @@ ghost use Rattle.pt_view.specs.declared.view.View.{View};
 ghost use Rattle.pt_model.specs.Layout.{input_pages};
 ghost use Rattle.pt_model.specs.declared.block.Block.{Block};
 ghost use Rattle.pt_model.specs.Book.{IsLawful};
-ghost use Rattle.pt_view.specs.Views.{Aside, Stays, IsAtRest, book_of, linked_of};
-ghost use Rattle.pt_view.specs.Calls.{MeetsEntry, MayInstall, MayWrite, MayWriteRun, Rooted, Went, IsPlaced, IsUnplaced, IsInstalled, MeetsOwn, IsWritten, IsWrittenRun, IsTaken, IsPrepared, HasEveryFrame, held_count, links, left};
+ghost use Rattle.pt_view.specs.Views.{Aside, Stays, IsAtRest, book_of};
+ghost use Rattle.pt_view.specs.Calls.{MeetsEntry, MayInstall, MayWrite, MayWriteRun, Rooted, Went, IsPlaced, IsUnplaced, IsInstalled, InstallFinds, IsWritten, IsWrittenRun, IsTaken, IsPrepared, HasEveryFrame, FillsSpace, FitsSpace, left};
 
 use pt_format::Format;
 use pt_num::Span;
@@ -56,29 +56,22 @@ pub trait Holder<F: Format> {
     /// Whether no other live view of its words exists.
     ghost alone: { Self → Type 0 };
 
-    /// The number of linked positions of its words. Clauses speak of it only where the holder is alone: they
-    /// are the tables of its book, the spine up to its top, and the positions that it has set aside.
-    ghost linked: { Self → ℕ };
-
     /// Loads the root and goes to its table. Answers the root's level.
     fn root(&mut self) -> u32
         requires { (view self.old).path ≡ [] }
         ensures stays { Stays space aside alone self.old self.new }
-        ensures linked { alone self.old → linked self.new ≡ linked self.old }
         ensures rooted { Rooted F.layout tells (alone self.old) (view self.old) result (view self.new) };
 
     /// Loads an entry of the path's last table, and goes into the table that it names, if it does.
     fn enter(&mut self, number: u32) -> Seen
         requires { MeetsEntry F.layout (view self.old) number }
         ensures stays { Stays space aside alone self.old self.new }
-        ensures linked { alone self.old → linked self.new ≡ linked self.old }
         ensures went { Went F.layout tells (alone self.old) number (view self.old) result (view self.new) };
 
     /// Leaves the path's last table. Makes no step.
     fn leave(&mut self)
         requires { 0 < length (view self.old).path }
         ensures stays { Stays space aside alone self.old self.new }
-        ensures linked { alone self.old → linked self.new ≡ linked self.old }
         ensures left { view self.new ≡ left (view self.old) };
 
     /// Prepares the first frame of the purse for a position.
@@ -87,14 +80,12 @@ pub trait Holder<F: Format> {
         requires none { (view self.old).prepared ≡ None }
         requires legal { IsPosition F.layout (record { level = level; base = base }) }
         ensures stays { Stays space aside alone self.old self.new }
-        ensures linked { alone self.old → linked self.new ≡ linked self.old }
         ensures placed { IsPlaced tells (view self.old) (record { level = level; base = base }) (view self.new) };
 
     /// Puts the prepared frame back, as the first of the purse.
     fn unplace(&mut self)
         requires { IsPrepared (view self.old) }
         ensures stays { Stays space aside alone self.old self.new }
-        ensures linked { alone self.old → linked self.new ≡ linked self.old }
         ensures unplaced { IsUnplaced tells (view self.old) (view self.new) };
 
     /// Links the prepared frame at an entry of the path's last table, where no other table is linked,
@@ -102,15 +93,13 @@ pub trait Holder<F: Format> {
     fn install(&mut self, number: u32) -> Won
         requires { MayInstall F.layout (view self.old) number }
         ensures stays { Stays space aside alone self.old self.new }
-        ensures linked { alone self.old → linked self.new ≡ linked self.old + links result }
         ensures installed { IsInstalled F.layout tells number (view self.old) result (view self.new) }
-        ensures met { alone self.old → MeetsOwn F.layout number (view self.old) result };
+        ensures found { InstallFinds F.layout (alone self.old) number (view self.old) result };
 
     /// Writes a word of a block into an entry of the path's last table.
     fn write(&mut self, number: u32, word: u64)
         requires { MayWrite F.layout (view self.old) number word }
         ensures stays { Stays space aside alone self.old self.new }
-        ensures linked { alone self.old → linked self.new ≡ linked self.old }
         ensures written { IsWritten F.layout tells number word (view self.old) (view self.new) };
 
     /// Writes words of blocks into `count` entries of the path's last table, from number `first` on: `word`, and
@@ -118,23 +107,20 @@ pub trait Holder<F: Format> {
     fn write_run(&mut self, first: u32, count: u32, word: u64, step: u64)
         requires { MayWriteRun F.layout (view self.old) first count word step }
         ensures stays { Stays space aside alone self.old self.new }
-        ensures linked { alone self.old → linked self.new ≡ linked self.old }
         ensures written { IsWrittenRun F.layout tells first count word step (view self.old) (view self.new) };
 
     /// Tries to take a frame, which is then the first of the purse. False only where it wasn't free.
     fn take(&mut self, frame: u32) -> bool
         requires { frame < (view self.old).frames }
         ensures stays { Stays space aside alone self.old self.new }
-        ensures linked { alone self.old → linked self.new ≡ linked self.old }
         ensures taken { IsTaken tells frame (view self.old) result (view self.new) }
-        ensures all { alone self.old → HasEveryFrame (view self.new) → linked self.new + held_count (view self.new) ≡ (view self.new).frames };
+        ensures all { alone self.old → HasEveryFrame (view self.new) → FillsSpace (view self.new) (aside self.new) };
 
     /// The number of frames in the purse.
     fn purse(&self) -> u32
         ensures count { result ≡ length (view self.now).purse }
         ensures within { result ≤ (view self.now).frames }
-        ensures book { alone self.now → linked self.now ≡ linked_of (view self.now) + length (aside self.now).positions }
-        ensures few { alone self.now → linked self.now + held_count (view self.now) ≤ (view self.now).frames };
+        ensures few { alone self.now → FitsSpace (view self.now) (aside self.now) };
 
     /// The number of frames of the space.
     fn frames(&self) -> u32

@@ -17,7 +17,7 @@ use Rattle.pt_format.specs.Laws.{IsLayout}
 use Rattle.pt_format.specs.Words.{MayBeLeaf, IsUnder}
 use Rattle.pt_view.specs.declared.view.View.{View}
 use Rattle.pt_view.specs.declared.view.Piece.{Piece}
-use Rattle.pt_view.specs.Lists.{IsAmong, one_if, places}
+use Rattle.pt_model.specs.Sets.{IsAmong, one_if, places}
 use Rattle.pt_view.specs.Pieces.{IsOneOf, all_pieces, first_of, level_of, pieces_of, table_of, words_of}
 use Rattle.pt_view.specs.Views.{IsAtRest, book_of}
 use Rattle.pt_walk.specs.Walks.{HasNowhere, IsFound, IsOwn, IsUnderPiece, OwnsAll}

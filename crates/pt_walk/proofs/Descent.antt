@@ -15,7 +15,7 @@ use Rattle.pt_view.specs.declared.view.View.{View}
 use Rattle.pt_view.specs.declared.view.Piece.{Piece}
 use Rattle.pt_view.specs.declared.holder.Seen.{Seen}
 use Rattle.pt_view.specs.declared.holder.Seen.TheVariants.{Empty, Leaf, Entered}
-use Rattle.pt_view.specs.Lists.{IsAmong}
+use Rattle.pt_model.specs.Sets.{IsAmong}
 use Rattle.pt_view.specs.Pieces.{IsOneOf, level_of, table_of}
 use Rattle.pt_view.specs.Views.{SameBook, SameRange}
 use Rattle.pt_view.specs.Calls.{IsVacant, Went, lowest, is_under, pieces_at}

@@ -11,7 +11,7 @@ use Rattle.pt_view.specs.declared.view.Piece.{Piece}
 use Rattle.pt_view.specs.declared.view.Absence.{Absence}
 use Rattle.pt_view.specs.declared.holder.Seen.{Seen}
 use Rattle.pt_view.specs.declared.holder.Seen.TheVariants.{Empty, Leaf, Entered}
-use Rattle.pt_view.specs.Lists.{AddsPositions, IsAmong, SamePositions}
+use Rattle.pt_model.specs.Sets.{AddsPositions, IsAmong, SamePositions}
 use Rattle.pt_view.specs.Pieces.{IsOneOf, word_of}
 use Rattle.pt_view.specs.Views.{SameBook, SameHistory, SameRange}
 use Rattle.pt_view.specs.Calls.{IsEntryAt, IsVacant, Looked, MeetsEntry, Rooted, Went, zero as looked_zero, leaf as looked_leaf, table as looked_table, above, left, lowest, pieces_at}

@@ -10,7 +10,7 @@ use Rattle.pt_model.specs.Tables.{child_at, is_same, position_over, spine_positi
 use Rattle.pt_format.specs.Laws.{IsLayout}
 use Rattle.pt_view.specs.declared.view.View.{View}
 use Rattle.pt_view.specs.declared.view.Piece.{Piece}
-use Rattle.pt_view.specs.Lists.{one_if}
+use Rattle.pt_model.specs.Sets.{one_if}
 use Rattle.pt_view.specs.Pieces.{IsOneOf, first_of, level_of, number_of, table_of, words_of}
 use Rattle.pt_view.specs.Calls.{entry_end, entry_first, is_under, meets_span, pieces_at}
 use Rattle.pt_walk.specs.Walks.{IsInSpan, IsOwn, IsUnderPiece, entry_number}

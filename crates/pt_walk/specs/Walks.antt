@@ -11,7 +11,8 @@ use Rattle.pt_view.specs.declared.view.View.{View}
 use Rattle.pt_view.specs.declared.view.Node.{Node}
 use Rattle.pt_view.specs.declared.view.Piece.{Piece}
 use Rattle.pt_view.specs.declared.view.Absence.{Absence}
-use Rattle.pt_view.specs.Lists.{IsAmong, SameFrames}
+use Rattle.pt_model.specs.Sets.{IsAmong}
+use Rattle.pt_view.specs.Lists.{SameFrames}
 use Rattle.pt_view.specs.Pieces.{IsOneOf, first_of, level_of, table_of, word_of, words_of}
 use Rattle.pt_view.specs.Views.{IsAtRest, SameRange, SameBook, SamePurse}
 use Rattle.pt_view.specs.Calls.{lowest}

@@ -28,7 +28,6 @@ pub(crate) struct Lowest {
 fn go_down<F: Format, H: Holder<F>>(holder: &mut H, page: u64, level: u32) -> Lowest
     requires going { IsGoing F.layout (H.view holder.old) page level }
     ensures stays { Stays H.space H.aside H.alone holder.old holder.new }
-    ensures linked { H.alone holder.old → H.linked holder.new ≡ H.linked holder.old }
     ensures walked { Walked H.tells (H.view holder.old) (H.view holder.new) }
     ensures down { WentDown F.layout (H.view holder.old) (H.view holder.new) page level result.level }
     ensures found { MatchOption (leaf_in result.word) (HasNone F.layout (H.view holder.old) page level) (λ word. IsFound F.layout (H.view holder.old) page result.level word) }
@@ -45,7 +44,6 @@ pub(crate) fn leaf_over<F: Format, H: Holder<F>>(holder: &mut H, page: u64) -> O
     requires rest { (H.view holder.old).path ≡ [] }
     requires asked { IsAsked F.layout (H.view holder.old) page }
     ensures stays { Stays H.space H.aside H.alone holder.old holder.new }
-    ensures linked { H.alone holder.old → H.linked holder.new ≡ H.linked holder.old }
     ensures walked { Walked H.tells (H.view holder.old) (H.view holder.new) }
     ensures rest { (H.view holder.new).path ≡ [] }
     ensures found { MatchOption result (HasNowhere F.layout (H.view holder.old) page) (λ leaf. IsFound F.layout (H.view holder.old) page leaf.level leaf.word) }

@@ -53,7 +53,6 @@ pub fn descend<F: Format, H: Holder<F>>(
     requires lowest { lowest ≤ level }
     requires whole { IsTrue whole → end ≤ (first / pages_of_entry F.layout lowest + 1) * pages_of_entry F.layout lowest }
     ensures stays { Stays H.space H.aside H.alone holder.old holder.new }
-    ensures linked { H.alone holder.old → H.linked holder.new ≡ H.linked holder.old }
     ensures walked { Walked H.tells (H.view holder.old) (H.view holder.new) }
     ensures range { IsOverRange F.layout (H.view holder.new) first end result }
     ensures down { WentDown F.layout (H.view holder.old) (H.view holder.new) first level result }
@@ -75,7 +74,6 @@ pub fn descend<F: Format, H: Holder<F>>(
 pub fn climb<F: Format, H: Holder<F>>(holder: &mut H, tables: u32)
     requires { tables ≤ length (H.view holder.old).path }
     ensures stays { Stays H.space H.aside H.alone holder.old holder.new }
-    ensures linked { H.alone holder.old → H.linked holder.new ≡ H.linked holder.old }
     ensures left { (front nodes : List Node) → (H.view holder.old).path ≡ front ++ nodes → length nodes ≡ tables → H.view holder.new ≡ record (H.view holder.old) { path = front } }
 {
     for _left in 0..tables {
@@ -95,7 +93,6 @@ pub fn first_below<F: Format, H: Holder<F>>(
     requires range { IsOverRange F.layout (H.view holder.old) first end level }
     requires owns { OwnsAll F.layout (H.view holder.old) }
     ensures stays { Stays H.space H.aside H.alone holder.old holder.new }
-    ensures linked { H.alone holder.old → H.linked holder.new ≡ H.linked holder.old }
     ensures walked { Walked H.tells (H.view holder.old) (H.view holder.new) }
     ensures path { (H.view holder.new).path ≡ (H.view holder.old).path }
     ensures lowest { IsClear F.layout (H.view holder.old) first end level → MatchOption result (IsFree F.layout (H.view holder.old) first end) (λ page. IsLowest F.layout (H.view holder.old) first end page) }
@@ -126,7 +123,6 @@ pub fn first_at<F: Format, H: Holder<F>>(
     requires one { end ≤ (first / pages_of_entry F.layout level + 1) * pages_of_entry F.layout level }
     requires owns { OwnsAll F.layout (H.view holder.old) }
     ensures stays { Stays H.space H.aside H.alone holder.old holder.new }
-    ensures linked { H.alone holder.old → H.linked holder.new ≡ H.linked holder.old }
     ensures walked { Walked H.tells (H.view holder.old) (H.view holder.new) }
     ensures path { (H.view holder.new).path ≡ (H.view holder.old).path }
     ensures lowest { IsClear F.layout (H.view holder.old) first end level → MatchOption result (IsFree F.layout (H.view holder.old) first end) (λ page. IsLowest F.layout (H.view holder.old) first end page) }

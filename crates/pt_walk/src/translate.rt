@@ -54,7 +54,6 @@ pub fn lookup<F: Format, H: Holder<F>>(
 ) -> Result<Option<(u64, Prot)>, OutsideLease>
     requires rest { Rests F.layout (H.view holder.old) }
     ensures stays { Stays H.space H.aside H.alone holder.old holder.new }
-    ensures linked { H.alone holder.old → H.linked holder.new ≡ H.linked holder.old }
     ensures walked { Walked H.tells (H.view holder.old) (H.view holder.new) }
     ensures rest { (blocks : List Block) → IsAtRest F.layout (H.view holder.old) blocks → IsAtRest F.layout (H.view holder.new) blocks }
     ensures outside { (blocks : List Block) → IsErr result ↔ IsTrue (is_outside F.layout (book_of (H.view holder.old) blocks) address) }

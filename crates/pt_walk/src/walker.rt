@@ -40,7 +40,6 @@ impl<F: Format> RangeWalk<F> {
         requires rest { Rests F.layout (H.view holder.old) }
         requires span { HasSpan (H.view holder.old) span.first span.count }
         ensures stays { Stays H.space H.aside H.alone holder.old holder.new }
-        ensures linked { H.alone holder.old → H.linked holder.new ≡ H.linked holder.old }
         ensures walked { Walked H.tells (H.view holder.old) (H.view holder.new) }
         ensures walking { IsWalking F.layout (H.view holder.new) result }
         ensures rest { (blocks : List Block) → IsAtRest F.layout (H.view holder.old) blocks → IsAtRest F.layout (rested (H.view holder.new)) blocks }
@@ -68,7 +67,6 @@ impl<F: Format> RangeWalk<F> {
     pub fn next<H: Holder<F>>(&mut self, holder: &mut H) -> Option<Block>
         requires walking { IsWalking F.layout (H.view holder.old) self.old }
         ensures stays { Stays H.space H.aside H.alone holder.old holder.new }
-        ensures linked { H.alone holder.old → H.linked holder.new ≡ H.linked holder.old }
         ensures walked { Walked H.tells (H.view holder.old) (H.view holder.new) }
         ensures walking { IsWalking F.layout (H.view holder.new) self.new }
         ensures rest { (blocks : List Block) → IsAtRest F.layout (rested (H.view holder.old)) blocks → IsAtRest F.layout (rested (H.view holder.new)) blocks }
@@ -81,7 +79,6 @@ impl<F: Format> RangeWalk<F> {
     pub fn end<H: Holder<F>>(self, holder: &mut H)
         requires walking { IsWalking F.layout (H.view holder.old) self }
         ensures stays { Stays H.space H.aside H.alone holder.old holder.new }
-        ensures linked { H.alone holder.old → H.linked holder.new ≡ H.linked holder.old }
         ensures left { H.view holder.new ≡ rested (H.view holder.old) }
     {
         climb::<F, H>(holder, self.way.above.len() as u32 + 1);
@@ -93,7 +90,6 @@ pub fn next_block<F: Format, H: Holder<F>>(holder: &mut H, span: Span) -> Option
     requires rest { Rests F.layout (H.view holder.old) }
     requires span { HasSpan (H.view holder.old) span.first span.count }
     ensures stays { Stays H.space H.aside H.alone holder.old holder.new }
-    ensures linked { H.alone holder.old → H.linked holder.new ≡ H.linked holder.old }
     ensures walked { Walked H.tells (H.view holder.old) (H.view holder.new) }
     ensures rest { (blocks : List Block) → IsAtRest F.layout (H.view holder.old) blocks → IsAtRest F.layout (H.view holder.new) blocks }
     ensures found { (blocks : List Block) → IsAtRest F.layout (H.view holder.old) blocks → 0 < span.count → result ≡ find (meets span.first (span.first + span.count)) blocks }
@@ -110,7 +106,6 @@ pub fn first_mapped<F: Format, H: Holder<F>>(holder: &mut H, span: Span) -> Opti
     requires rest { Rests F.layout (H.view holder.old) }
     requires span { HasSpan (H.view holder.old) span.first span.count }
     ensures stays { Stays H.space H.aside H.alone holder.old holder.new }
-    ensures linked { H.alone holder.old → H.linked holder.new ≡ H.linked holder.old }
     ensures walked { Walked H.tells (H.view holder.old) (H.view holder.new) }
     ensures rest { (blocks : List Block) → IsAtRest F.layout (H.view holder.old) blocks → IsAtRest F.layout (H.view holder.new) blocks }
     ensures found { (blocks : List Block) → IsAtRest F.layout (H.view holder.old) blocks → 0 < span.count → result ≡ lowest_mapped (book_of (H.view holder.old) blocks) span.first (span.first + span.count) }

@@ -28,7 +28,6 @@ pub(crate) struct Way {
 fn rise<F: Format, H: Holder<F>>(way: &mut Way, holder: &mut H)
     requires way { IsOnWay F.layout (H.view holder.old) way.old }
     ensures stays { Stays H.space H.aside H.alone holder.old holder.new }
-    ensures linked { H.alone holder.old → H.linked holder.new ≡ H.linked holder.old }
     ensures walked { Walked H.tells (H.view holder.old) (H.view holder.new) }
     ensures way { IsWalking F.layout (H.view holder.new) way.new }
     ensures at { way.new.at ≡ way.old.at }
@@ -50,7 +49,6 @@ fn step<F: Format, H: Holder<F>>(way: &mut Way, holder: &mut H) -> Option<Block>
     requires way { IsWalking F.layout (H.view holder.old) way.old }
     requires more { way.old.at < way.old.end }
     ensures stays { Stays H.space H.aside H.alone holder.old holder.new }
-    ensures linked { H.alone holder.old → H.linked holder.new ≡ H.linked holder.old }
     ensures walked { Walked H.tells (H.view holder.old) (H.view holder.new) }
     ensures way { IsWalking F.layout (H.view holder.new) way.new }
     ensures end { way.new.end ≡ way.old.end }
@@ -85,7 +83,6 @@ fn step<F: Format, H: Holder<F>>(way: &mut Way, holder: &mut H) -> Option<Block>
 pub(crate) fn next<F: Format, H: Holder<F>>(way: &mut Way, holder: &mut H) -> Option<Block>
     requires way { IsWalking F.layout (H.view holder.old) way.old }
     ensures stays { Stays H.space H.aside H.alone holder.old holder.new }
-    ensures linked { H.alone holder.old → H.linked holder.new ≡ H.linked holder.old }
     ensures walked { Walked H.tells (H.view holder.old) (H.view holder.new) }
     ensures way { IsWalking F.layout (H.view holder.new) way.new }
     ensures comes { (blocks : List Block) → IsAtRest F.layout (rested (H.view holder.old)) blocks → HasNext result (left_of way.old blocks) (left_of way.new blocks) }

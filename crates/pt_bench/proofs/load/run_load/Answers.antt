@@ -1,6 +1,6 @@
 use Rattle.std.proofs.Common.{[], List, subst, arith}
 use Rattle.pt_model.specs.declared.position.Position.{Position}
-use Rattle.pt_view.specs.Lists.{IsAmong}
+use Rattle.pt_model.specs.Sets.{IsAmong}
 use Rattle.pt_bench.proofs.load.run_load.Goals as goal
 
 pub map_all-mapped-requires-clause-ready : goal.map_all-mapped-requires-clause-ready

@@ -3,7 +3,7 @@ use Rattle.std.specs.Prelude.{length}
 use Rattle.pt_model.specs.declared.position.Position.{Position}
 use Rattle.pt_model.specs.Tables.{all_needed}
 use Rattle.pt_view.specs.declared.view.View.{View}
-use Rattle.pt_view.specs.Lists.{IsAmong}
+use Rattle.pt_model.specs.Sets.{IsAmong}
 use Rattle.pt_map.specs.declared.part.Part.{Part}
 use Rattle.pt_map.specs.Filled.{CountsTables, Filled, HasRoom, MayFill, Spends}
 use Rattle.pt_map.specs.Parts.{IsEntryPart, needs, needs_below, step, tiles}

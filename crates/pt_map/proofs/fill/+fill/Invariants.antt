@@ -2,7 +2,7 @@ use Rattle.std.proofs.Common.{◌≡◌, ◌+◌, ◌-◌, ◌*◌, ◌<◌, ◌
 use Rattle.pt_model.specs.declared.block.Block.{Block}
 use Rattle.pt_model.specs.declared.position.Position.{Position}
 use Rattle.pt_model.specs.Tables.{all_needed}
-use Rattle.pt_view.specs.Lists.{IsAmong}
+use Rattle.pt_model.specs.Sets.{IsAmong}
 use Rattle.pt_map.specs.Parts.{needs_below, tiles}
 use Rattle.pt_map.specs.Filled.{CountsTables, Filled, HasRoom, MayFill, Spends}
 use Rattle.pt_view.specs.Views.{Stays}

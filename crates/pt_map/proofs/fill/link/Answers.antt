@@ -2,7 +2,7 @@ use Rattle.std.proofs.Common.{◌≡◌, ◌*◌, ◌/◌, ◌^◌, ◌<◌, sub
 use Rattle.pt_model.specs.Layout.{pages_of_entry}
 use Rattle.pt_model.specs.Tables.{IsPosition}
 use Rattle.pt_model.specs.declared.position.Position.{Position}
-use Rattle.pt_view.specs.Lists.{IsAmong}
+use Rattle.pt_model.specs.Sets.{IsAmong}
 use Rattle.pt_view.specs.Calls.{links}
 use Rattle.pt_walk.proofs.Quotients.{pages_few}
 use Rattle.pt_map.specs.Filled.{next_table}

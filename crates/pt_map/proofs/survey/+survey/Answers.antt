@@ -1,6 +1,6 @@
 use Rattle.std.proofs.Common.{rules, ◌≡◌, ℕ, ◌+◌, ◌-◌, ◌*◌, ◌%◌, ◌^◌, ◌<◌, ◌≤◌, inl, sym, ap, subst, ◌∙◌, refl, arith}
 use Rattle.pt_view.specs.declared.view.View.{View}
-use Rattle.pt_view.specs.Lists.{IsAmong}
+use Rattle.pt_model.specs.Sets.{IsAmong}
 use Rattle.pt_walk.specs.Walks.{IsClear, IsFree, IsLowest, OwnsAll}
 use Rattle.pt_walk.proofs.Descent.{owns_on}
 use Rattle.pt_walk.proofs.Loads.{leaf_path, leaf_walked, walked_on}

@@ -11,7 +11,6 @@ loop-frame-init g c =
     let v : View = g.H.Holder.view c.args.holder.now in
     record {
       stays = stays_here;
-      linked = λ a. refl;
       keeps = keeps_here v;
       place = place_here v;
       rest = λ rests. rests;
@@ -40,7 +39,6 @@ loop-frame-preserved g c =
     let one = t.one in
     record {
       stays = stays_on i.stays t.stays;
-      linked = λ a. t.linked (i.stays.still_alone a) ∙ i.linked a;
       keeps = keeps_on u v w i.keeps t.keeps;
       place = place_on u v w i.place t.place;
       rest = λ rests. t.rest (i.rest rests);

@@ -1,7 +1,7 @@
 use Rattle.std.proofs.Common.{◌≡◌, ℕ, ◌+◌, ◌<◌, ◌≤◌}
 use Rattle.pt_view.specs.declared.view.View.{View}
 use Rattle.pt_view.specs.Lists.{IsIn}
-use Rattle.pt_view.specs.Calls.{HasEveryFrame, held_count}
+use Rattle.pt_view.specs.Calls.{FillsSpace, HasEveryFrame}
 use Rattle.pt_walk.specs.Walks.{Rests}
 use Rattle.pt_sweep.specs.Draws.{Gains, GainsInOrder, KeepsBook, SamePlace}
 use Rattle.pt_sweep.proofs.Drawn.{Told}
@@ -14,7 +14,6 @@ invariant-loop-frame g l =
     let w : View = g.H.Holder.view l.holder in
     record {
       stays : Stays g.H.Holder.space g.H.Holder.aside g.H.Holder.alone l.initial.holder l.holder;
-      linked : g.H.Holder.alone l.initial.holder → g.H.Holder.linked l.holder ≡ g.H.Holder.linked l.initial.holder;
       keeps : KeepsBook v w;
       place : SamePlace v w;
       rest : Rests g.F.Format.layout v → Rests g.F.Format.layout w;
@@ -26,5 +25,5 @@ invariant-loop-frame g l =
       stores : g.H.Holder.tells → w.stores ≡ v.stores;
       every : (x : ℕ) → x < l.frame → IsIn w.busy x;
       told : g.H.Holder.tells → Told l.frame v w;
-      all : g.H.Holder.alone l.initial.holder → 0 < l.frame → HasEveryFrame w → g.H.Holder.linked l.holder + held_count w ≡ w.frames;
+      all : g.H.Holder.alone l.initial.holder → 0 < l.frame → HasEveryFrame w → FillsSpace w (g.H.Holder.aside l.holder);
     }

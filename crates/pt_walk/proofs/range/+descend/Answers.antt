@@ -78,7 +78,6 @@ returns-in_default g t c =
     c.entry_number.result c.entry_number.ensures.number c.enter.result w e.went c.in_default.not-Entered in
     record {
       stays = e.stays;
-      linked = e.linked;
       walked = s.0;
       range = range_from f v w c.args.first c.args.end c.args.first c.args.end c.args.level e.went.range s.1 r (omega arith) r.some (omega arith);
       down = down_here f v w c.args.first c.args.level r.over s.1;

@@ -140,7 +140,6 @@ first_below-loop-at-preserved g t c =
       from = (let a = stop.0 in let b = i.from in omega arith);
       to = stop.1;
       stays = stays_on i.stays e.stays;
-      linked = λ a. e.linked (i.stays.still_alone a) ∙ i.linked a;
       walked = walked_on g.H.Holder.tells v w (g.H.Holder.view c.first_at-mapped.new.holder) i.walked e.walked;
       path = e.path ∙ i.path;
       free = λ clear. none_more f v w c.args.first c.args.end c.loop-at.at c.min-next.result i.walked.book i.from stop.1 (i.free clear) c.first_at-mapped.result (sym c.is_some.ensures ∙ c.if-is_some.false)

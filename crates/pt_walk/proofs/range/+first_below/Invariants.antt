@@ -19,7 +19,6 @@ invariant-first_below-loop-at g l =
       from : l.first ≤ l.at;
       to : l.at ≤ l.end;
       stays : Stays g.H.Holder.space g.H.Holder.aside g.H.Holder.alone l.initial.holder l.holder;
-      linked : g.H.Holder.alone l.initial.holder → g.H.Holder.linked l.holder ≡ g.H.Holder.linked l.initial.holder;
       walked : Walked g.H.Holder.tells v w;
       path : w.path ≡ v.path;
       free : IsClear f v l.first l.end l.level → IsFree f v l.first l.at;

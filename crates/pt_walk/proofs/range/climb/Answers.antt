@@ -19,7 +19,6 @@ loop-left-preserved g c =
     let e = c.leave.ensures in
     record {
       stays = stays_on i.stays e.stays;
-      linked = λ a. e.linked (i.stays.still_alone a) ∙ i.linked a;
       left = up_more v (g.H.Holder.view c.loop-left.holder) (g.H.Holder.view c.leave.new.self) c.loop-left._left v.path i.left e.left;
     }
 

@@ -9,6 +9,5 @@ invariant-loop-left g l =
     let v : View = g.H.Holder.view l.initial.holder in
     record {
       stays : Stays g.H.Holder.space g.H.Holder.aside g.H.Holder.alone l.initial.holder l.holder;
-      linked : g.H.Holder.alone l.initial.holder → g.H.Holder.linked l.holder ≡ g.H.Holder.linked l.initial.holder;
       left : g.H.Holder.view l.holder ≡ record v { path = up l._left v.path };
     }

@@ -16,7 +16,6 @@ loop-way-preserved g c =
     let items : c.loop-way.way.above.items ≡ c.pop.new.self.items ++ c.in-Some.to ∷ [] = c.pop.ensures.items ∙ ap (λ o. c.pop.new.self.items ++ option_to_list o) c.in-Some.is in
     record {
       stays = stays_on i.stays e.stays;
-      linked = λ a. e.linked (i.stays.still_alone a) ∙ i.linked a;
       walked = walked_on g.H.Holder.tells u v w i.walked (walked_left g.H.Holder.tells v w e.left);
       way = way_up g.F.Format.layout g.H.Holder.tells v w c.loop-way.way c.pop.new.self c.in-Some.to e.left items i.way;
       at = i.at;

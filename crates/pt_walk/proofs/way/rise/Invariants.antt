@@ -12,7 +12,6 @@ invariant-loop-way g l =
     let w : View = g.H.Holder.view l.holder in
     record {
       stays : Stays g.H.Holder.space g.H.Holder.aside g.H.Holder.alone l.initial.holder l.holder;
-      linked : g.H.Holder.alone l.initial.holder → g.H.Holder.linked l.holder ≡ g.H.Holder.linked l.initial.holder;
       walked : Walked g.H.Holder.tells v w;
       way : IsOnWay g.F.Format.layout w l.way;
       at : l.way.at ≡ l.initial.way.at;
