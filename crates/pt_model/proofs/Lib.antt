@@ -1,7 +1,13 @@
-pub mod TilingFacts
+-- Addresses and their pages, and a range of bytes as a run of pages.
 pub mod Halves
-mod Families
-pub mod FirstPath
+mod RangeBytes
+-- The tiling of a range.
+pub mod TilingFacts
+-- Positions of tables, their order, and the top that a tree needs.
 pub mod Positions
-pub mod Places
 pub mod Tops
+-- The words of a space: a write at one place and a read at another.
+pub mod Places
+-- The definitions at numbers: a first script, and the words of families of formats that are still to come.
+pub mod FirstPath
+mod Families

@@ -4,9 +4,10 @@
 //!
 //! It stands on no other crate. The code here is plain data, since the definitions name it; the
 //! definitions are in `specs/`. What comes from a manual stands with the walks and the formats. The crates
-//! above promise to meet the definitions; this one promises the law that it has as a function.
+//! above promise to meet the definitions; this one promises the laws that it has as functions.
 #![tactic(auto)]
 
+ghost use Rattle.pt_model.specs.Pages.{RangesAreBytes};
 ghost use Rattle.pt_model.specs.Tiling.{HasOneTiling};
 
 mod block;
@@ -22,4 +23,9 @@ pub use reply::{Answer, LookupAnswer, MapAnswer, Reply};
 /// There is one tiling of a range of pages, and the list `tiling` is it.
 pub fn has_one_tiling()
     ensures { HasOneTiling }
+{}
+
+/// A range of whole pages has a run of pages exactly where each of its bytes has a page of that run.
+pub fn ranges_are_bytes()
+    ensures { RangesAreBytes }
 {}
