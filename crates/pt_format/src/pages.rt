@@ -96,8 +96,8 @@ pub fn byte_of<F: Format>(page: u64) -> u64
     }
 }
 
-/// The pages of `len` bytes from an input address, where each of the bytes has a page.
-pub fn range_of<F: Format>(va: u64, len: u64) -> Option<Span>
+/// The pages of a range of whole pages, by the pages of its first byte and of its last one.
+fn range_by_ends<F: Format>(va: u64, len: u64) -> Option<Span>
     requires whole { IsTrue (Pages.is_whole F.layout len) }
     requires some { 0 < len }
     ensures { result ≡ option_map span_of (range_at F.layout va len) }
@@ -109,6 +109,26 @@ pub fn range_of<F: Format>(va: u64, len: u64) -> Option<Span>
     let first = page_under::<F>(va);
     let count = len >> F::GRANULE;
     if first + count == page_under::<F>(last) + 1 {
+        Some(Span { first, count })
+    } else {
+        None
+    }
+}
+
+/// The pages of `len` bytes from an input address, both of whole pages. None exactly where one of the bytes has no
+/// page. Where the space has no sign, they are the pages from the address's own on, as far as the space goes.
+pub fn range_of<F: Format>(va: u64, len: u64) -> Option<Span>
+    requires whole_va { IsTrue (Pages.is_whole F.layout va) }
+    requires whole_len { IsTrue (Pages.is_whole F.layout len) }
+    requires some { 0 < len }
+    ensures { result ≡ option_map span_of (range_at F.layout va len) }
+{
+    if F::SIGNED {
+        return range_by_ends::<F>(va, len);
+    }
+    let first = va >> F::GRANULE;
+    let count = len >> F::GRANULE;
+    if first + count <= 1 << (F::INPUT - F::GRANULE) {
         Some(Span { first, count })
     } else {
         None
