@@ -42,8 +42,9 @@ is_spine levels p = nat_le (starting_top levels) p.level && (p.base == 0)
 abbrev pub levels_between : ℕ → ℕ → List ℕ
 levels_between low high = range_with_len low (high + 1 - low)
 
--- the least top, from the starting one on, whose table at page 0 has all pages before page `last`: the levels
--- below it are those whose table at page 0 ends before
+-- the least top, from the starting one on, whose table at page 0 has all pages before page `last`, which is at most
+-- the end of the space: the levels below it are those whose table at page 0 ends before. Past the end of the space it
+-- is `f.levels`, which is no level, and nobody asks there
 abbrev pub least_top : Layout → (levels last : ℕ) → ℕ
 least_top f levels last =
     max (starting_top levels) (count_by (λ t. nat_lt (pages_of_table f t) last) (range_with_len 0 f.levels))
