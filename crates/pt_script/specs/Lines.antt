@@ -30,7 +30,8 @@ name_text Sv39 = codes "sv39"
 name_text Sv48 = codes "sv48"
 name_text Sv57 = codes "sv57"
 
--- the levels of a format whose script doesn't state them
+-- the levels of a format whose script doesn't state them; a script of amdv1 does, so that its number here is read by
+-- nothing
 abbrev pub levels_of : Name → ℕ
 levels_of AmdV1 = 3
 levels_of VtdSs3 = 3

@@ -17,7 +17,8 @@ pub fn one_text()
 
 /// A text that is bad at a line is that of no script.
 pub fn bad_is_no_script()
-    ensures { (text : List ℕ) (number : ℕ) (reason : Reason) → IsBadAt text number reason → (ls : List Line) → IsTrue (is_lawful ls) → text ≢ script_text ls }
+    ensures { (text : List ℕ) (number : ℕ) (reason : Reason) → IsBadAt text number reason →
+        (ls : List Line) → IsTrue (is_lawful ls) → text ≢ script_text ls }
 {
     one_number();
 }

@@ -168,7 +168,8 @@ fn push_tail(out: &mut Vec<u8>, asks: &[Ask]) -> Result<(), Memory>
 }
 
 fn push_header(out: &mut Vec<u8>, script: &Script) -> Result<(), Memory>
-    ensures { OnOk result (out.new.items ≡ out.old.items ++ script_text (Line.Format script.now.format script.now.levels ∷ Line.Frames script.now.frames ∷ Line.Hold script.now.hold ∷ [])) }
+    ensures { OnOk result (out.new.items ≡ out.old.items ++ script_text
+        (Line.Format script.now.format script.now.levels ∷ Line.Frames script.now.frames ∷ Line.Hold script.now.hold ∷ [])) }
 {
     push_line(
         out,

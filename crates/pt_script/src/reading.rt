@@ -230,7 +230,8 @@ fn line_of_words(keyword: Keyword, raw: &[u8]) -> Option<Line>
     ensures found { IfSome result (λ l. words raw.now ≡ keyword_text keyword ∷ operands l) }
     ensures stated { IfSome result (λ l. IsTrue (is_stated l)) }
     ensures form { IfSome result (λ l. keyword_of l ≡ keyword) }
-    ensures none { IfNone result ((l : Line) → IsTrue (is_stated l) → keyword_of l ≡ keyword → words raw.now ≢ keyword_text keyword ∷ operands l) }
+    ensures none { IfNone result
+        ((l : Line) → IsTrue (is_stated l) → keyword_of l ≡ keyword → words raw.now ≢ keyword_text keyword ∷ operands l) }
 {
     let (_, rest) = split_word(raw);
     match keyword {
