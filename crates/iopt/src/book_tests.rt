@@ -6,22 +6,13 @@ use crate::top::run;
 use crate::words::Words;
 use fmt_vtdss::VtdSs;
 use fmt_x86::X86;
-use pt_book::{ListBook, Refusal};
+use pt_book::ListBook;
 use pt_format::Format;
 use pt_model::{Answer, LookupAnswer, MapAnswer, Name, Prot, Reply, What};
 use pt_script::{Script, parse};
 use pt_stream::{MemorySink, SureSource, push_hex};
 use std::alloc::Global;
 use std::test::Fail;
-
-fn refused(refusal: Refusal) -> MapAnswer {
-    match refusal {
-        Refusal::Misaligned => MapAnswer::Misaligned,
-        Refusal::OutsideLease => MapAnswer::Outside,
-        Refusal::OutputRange => MapAnswer::Output,
-        Refusal::Occupied { address } => MapAnswer::Occupied { address },
-    }
-}
 
 fn looked_up<F: Format>(book: &ListBook<F>, va: u64) -> LookupAnswer {
     if book.is_outside(va) {
@@ -43,7 +34,7 @@ fn mapped<F: Format>(
     prot: Prot,
 ) -> Result<MapAnswer, Fail> {
     if let Some(refusal) = book.refusal(va, pa, len) {
-        return Ok(refused(refusal));
+        return Ok(refusal);
     }
     if book.is_short(frames, va, pa, len, prot)? {
         return Ok(MapAnswer::Frames);

@@ -9,8 +9,6 @@
 
 mod list_book;
 mod lists;
-mod refusal;
 mod tables;
 
 pub use list_book::ListBook;
-pub use refusal::Refusal;

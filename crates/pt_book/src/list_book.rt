@@ -6,13 +6,12 @@ ghost use Rattle.pt_model.specs.Pages as pages;
 ghost use Rattle.pt_model.specs.Tiling.{tiling};
 ghost use Rattle.pt_model.specs.Book as book;
 ghost use Rattle.pt_model.specs.Book.{new_book, map_refusal, translation};
-ghost use Rattle.pt_book.specs.Refusals.{refusal_of};
+ghost use Rattle.pt_model.specs.Run.{refused_answer};
 
 use crate::lists::{add_blocks, first_met, tiled};
-use crate::refusal::Refusal;
 use crate::tables::{all_needed, is_in, is_spine, tables_after};
 use pt_format::{Block, Format, Prot, byte_of, is_whole, page_of, page_under, range_of};
-use pt_model::Position;
+use pt_model::{MapAnswer, Position};
 use pt_num::{Memory, Span};
 use std::alloc::Global;
 use std::marker::{Model, PhantomData};
@@ -46,7 +45,9 @@ impl<F: Format> Model for ListBook<F> {
       top = starting_top F.layout.levels;
     } };
 
-    ghost invariant = { λ b. (b.first + b.count ≤ input_pages F.layout) × All (IsLegalBlock F.layout) b.blocks.items × IsSorted b.tables.items };
+    ghost invariant = { λ b. (b.first + b.count ≤ input_pages F.layout)
+        × All (IsLegalBlock F.layout) b.blocks.items
+        × IsSorted b.tables.items };
 }
 
 impl<F: Format> ListBook<F> {
@@ -64,31 +65,31 @@ impl<F: Format> ListBook<F> {
         }
     }
 
-    /// Why a map of `len` bytes from input address `va` onto those from output address `pa` is refused,
-    /// other than for want of frames; None where it isn't.
+    /// What a map of `len` bytes from input address `va` onto those from output address `pa` is answered where
+    /// it is refused, other than for want of frames; None where it isn't.
     ///
-    /// `Misaligned` where one of the three isn't of whole pages or the length is 0, `OutsideLease` where a
-    /// byte of the range has no page of the space, `OutputRange` where the outputs end past the format's
-    /// output addresses, `Occupied` with the address of the lowest page of the range that is mapped. The
-    /// first of these that holds is the answer.
-    pub fn refusal(&self, va: u64, pa: u64, len: u64) -> Option<Refusal>
-        ensures { option_map refusal_of result ≡ map_refusal F.layout self.now va pa len }
+    /// `Misaligned` where one of the three isn't of whole pages or the length is 0, `Outside` where a byte of
+    /// the range has no page of the space, `Output` where the outputs end past the format's output addresses,
+    /// `Occupied` with the address of the lowest page of the range that is mapped. The first of these that
+    /// holds is the answer.
+    pub fn refusal(&self, va: u64, pa: u64, len: u64) -> Option<MapAnswer>
+        ensures { result ≡ option_map refused_answer (map_refusal F.layout self.now va pa len) }
     {
         if !are_whole::<F>(va, pa, len) {
-            return Some(Refusal::Misaligned);
+            return Some(MapAnswer::Misaligned);
         }
         let Some(span) = range_of::<F>(va, len) else {
-            return Some(Refusal::OutsideLease)
+            return Some(MapAnswer::Outside)
         };
         let last = span.first + span.count;
         if !is_inside(self.first, self.count, span.first, last) {
-            return Some(Refusal::OutsideLease);
+            return Some(MapAnswer::Outside);
         }
         if is_past_output::<F>(pa, len) {
-            return Some(Refusal::OutputRange);
+            return Some(MapAnswer::Output);
         }
         let block = first_met(&self.blocks, span.first, last)?;
-        Some(Refusal::Occupied {
+        Some(MapAnswer::Occupied {
             address: byte_of::<F>(span.first.max(block.first)),
         })
     }
@@ -104,7 +105,8 @@ impl<F: Format> ListBook<F> {
         prot: Prot,
     ) -> Result<bool, Memory>
         requires allowed { map_refusal F.layout self.now va pa len ≡ None }
-        ensures { IfOk result (λ short. short ≡ book.is_short F.layout F.layout.levels frames self.now (pages.page_under F.layout va) (len / 2 ^ F.layout.granule) (pa / 2 ^ F.layout.granule) prot) }
+        ensures { IfOk result (λ short. short ≡ book.is_short F.layout F.layout.levels frames self.now
+            (pages.page_under F.layout va) (len / 2 ^ F.layout.granule) (pa / 2 ^ F.layout.granule) prot) }
     {
         let new = self.new_blocks(va, pa, len, prot)?;
         let needed = all_needed::<F>(self.alloc, &new)?;
@@ -117,7 +119,8 @@ impl<F: Format> ListBook<F> {
     /// changes.
     pub fn map(&mut self, va: u64, pa: u64, len: u64, prot: Prot) -> Result<(), Memory>
         requires allowed { map_refusal F.layout self.old va pa len ≡ None }
-        ensures mapped { OnOk result (self.new ≡ book.mapped F.layout F.layout.levels self.old (pages.page_under F.layout va) (len / 2 ^ F.layout.granule) (pa / 2 ^ F.layout.granule) prot) }
+        ensures mapped { OnOk result (self.new ≡ book.mapped F.layout F.layout.levels self.old
+            (pages.page_under F.layout va) (len / 2 ^ F.layout.granule) (pa / 2 ^ F.layout.granule) prot) }
         ensures same { OnErr result (self.new ≡ self.old) }
     {
         let new = self.new_blocks(va, pa, len, prot)?;
@@ -130,7 +133,8 @@ impl<F: Format> ListBook<F> {
     /// The blocks of a map of `len` bytes from input address `va` onto those from output address `pa`.
     fn new_blocks(&self, va: u64, pa: u64, len: u64, prot: Prot) -> Result<Vec<Block>, Memory>
         requires allowed { map_refusal F.layout self.now va pa len ≡ None }
-        ensures tiling { IfOk result (λ new. new.items ≡ tiling F.layout prot (pages.page_under F.layout va) (pa / 2 ^ F.layout.granule) (len / 2 ^ F.layout.granule)) }
+        ensures tiling { IfOk result (λ new. new.items ≡ tiling F.layout prot
+            (pages.page_under F.layout va) (pa / 2 ^ F.layout.granule) (len / 2 ^ F.layout.granule)) }
         ensures legal { IfOk result (λ new. All (IsLegalBlock F.layout) new.items) }
         ensures in_order { IfOk result (λ new. AllPairs (λ b c. b.first ≤ c.first) new.items) }
     {

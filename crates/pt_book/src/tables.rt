@@ -142,7 +142,8 @@ fn not_replaced<F: Format>(
     blocks: &[Block],
 ) -> Result<Vec<Position>, Memory>
     requires { All (IsLegalBlock F.layout) blocks.now }
-    ensures { IfOk result (λ kept. kept.items ≡ filter (λ p. not (list_any (λ b. table_lies_in F.layout b.first (end_of b) p) blocks.now)) list.now) }
+    ensures { IfOk result (λ kept. kept.items
+        ≡ filter (λ p. not (list_any (λ b. table_lies_in F.layout b.first (end_of b) p) blocks.now)) list.now) }
 {
     let mut kept = Vec::new(alloc);
     for position in list {
@@ -156,7 +157,8 @@ fn not_replaced<F: Format>(
 /// Puts those positions of a list that are not of the spine into another, which is in order.
 fn add_off_spine<F: Format>(list: &mut Vec<Position>, needed: &[Position]) -> Result<(), Memory>
     requires { IsSorted list.old.items }
-    ensures added { OnOk result (list.new.items ≡ add_positions list.old.items (filter (λ p. not (tables.is_spine F.layout.levels p)) needed.now)) }
+    ensures added { OnOk result (list.new.items
+        ≡ add_positions list.old.items (filter (λ p. not (tables.is_spine F.layout.levels p)) needed.now)) }
     ensures in_order { OnOk result (IsSorted list.new.items) }
 {
     for position in needed {
