@@ -1,6 +1,6 @@
 -- What a map of a range answers, by the book machine.
-use Rattle.std.proofs.Common.{◌≡◌, ◌<◌, ◌≤◌, ℕ, suc, zero, ◌+◌, ◌*◌, ◌^◌, ◌/◌, ◌∷◌, ◌++◌, [], List, length, Bool, true, false, Option, Some, None, refl, ap, sym, ◌∙◌, subst, arith}
-use Rattle.std.specs.Prelude.{nat_lt, map, ◌==◌, if◌then◌else◌}
+use Rattle.std.proofs.Common.{◌≡◌, ◌<◌, ◌≤◌, ℕ, suc, zero, ◌+◌, ◌∷◌, ◌++◌, [], List, length, Bool, true, false, Option, Some, None, refl, ap, sym, ◌∙◌, subst, arith}
+use Rattle.std.specs.Prelude.{map, ◌==◌, if◌then◌else◌}
 use Rattle.std.specs.List.{range_with_len}
 use Rattle.std.proofs.lemmas.Bool.{le-ltb, lt-ltb, ne_eqb}
 use Rattle.std.proofs.lemmas.Nat.{pow_pos}
@@ -9,11 +9,9 @@ use Rattle.pt_model.specs.declared.block.Prot.{Prot}
 use Rattle.pt_model.specs.declared.position.Position.{Position}
 use Rattle.pt_model.specs.declared.reply.MapAnswer.{MapAnswer}
 use Rattle.pt_model.specs.declared.reply.MapAnswer.TheVariants as mapping
-use Rattle.pt_model.specs.declared.command.What.TheVariants.{Map}
 use Rattle.pt_model.specs.Layout.{Layout}
-use Rattle.pt_model.specs.Pages.{page_under}
 use Rattle.pt_model.specs.Book.{Book, MapRefusal, Misaligned, OutsideLease, OutputRange, Occupied, is_short, map_refusal, mapped}
-use Rattle.pt_model.specs.Run.{after_map, book_after, lacks_frames, map_answer, refused_answer}
+use Rattle.pt_model.specs.Run.{after_map, map_answer, refused_answer}
 use Rattle.pt_view.specs.declared.view.View.{View}
 use Rattle.pt_view.specs.declared.view.Piece.{Piece}
 use Rattle.pt_view.specs.Pieces.{IsOneOf, all_pieces, pieces_of, words_of}
@@ -22,7 +20,7 @@ use Rattle.pt_model.specs.Sets.{IsAmong}
 use Rattle.pt_walk.specs.Walks.{Walked}
 use Rattle.pt_map.specs.Answers.{HasNoEmptyTable, IsMapped, IsRefused, Request, lacking, request_of}
 use Rattle.iopt.specs.Built.{machine}
-use Rattle.iopt.specs.Running.{IsReady, MapsAs, blocks_of, book_in}
+use Rattle.iopt.specs.Running.{IsReady, MapsAs, blocks_of, book_in, machine_in}
 
 -- The blocks of a view at rest are read from its pieces.
 
@@ -70,22 +68,21 @@ module _ (f : Layout) (v w : View) (ready : IsReady f v) (va pa len : ℕ) (prot
   refusal = map_refusal f (book_in v) va pa len
 
   abbrev short : Bool
-  short = is_short f f.levels v.frames (book_in v) asked.first asked.count asked.out prot
+  short = is_short f v.levels v.frames (book_in v) asked.first asked.count asked.out prot
 
   abbrev after_it : Book
-  after_it = mapped f f.levels (book_in v) asked.first asked.count asked.out prot
-
-  -- the account of frames, where so many levels are there from the start
-  short_is : (b : Bool) → nat_lt v.frames (linked_of v + length (lacking f v blocks asked)) ≡ b → short ≡ b
-  short_is b e = subst (λ (l : ℕ). is_short f l v.frames (book_in v) asked.first asked.count asked.out prot ≡ b) ready.levels e
+  after_it = mapped f v.levels (book_in v) asked.first asked.count asked.out prot
 
   -- the answer and the book of the book machine, by its refusal and by whether frames are short
   answer_by : (o : Option MapRefusal) (b : Bool) → refusal ≡ o → short ≡ b →
-      map_answer (machine f v.frames) (book_in v) va pa len prot ≡ elim o [ Some r ↦ refused_answer r | None ↦ if b then mapping.Frames else mapping.Mapped ]
+      map_answer (machine_in f v) (book_in v) va pa len prot ≡ elim o [ Some r ↦ refused_answer r | None ↦ if b then mapping.Frames else mapping.Mapped ]
   answer_by o b e s = (λ i. elim (e i) [ Some r ↦ refused_answer r | None ↦ if s i then mapping.Frames else mapping.Mapped ])
 
+  same_machine : SameRange v w → machine_in f w ≡ machine_in f v
+  same_machine range = λ i. machine f (range.levels i) (range.frames i)
+
   kept : SameRange v w → SameBook v w → w.path ≡ v.path → (w.prepared ≡ v.prepared) → (w.end ≡ v.end) → (a : MapAnswer) →
-      a ≡ map_answer (machine f v.frames) (book_in v) va pa len prot → after_map a after_it (book_in v) ≡ book_in v → MapsAs f v w va pa len prot a
+      a ≡ map_answer (machine_in f v) (book_in v) va pa len prot → after_map a after_it (book_in v) ≡ book_in v → MapsAs f v w va pa len prot a
   kept range book path prepared end a is same = record {
     ready = record {
       rest = record {
@@ -97,7 +94,7 @@ module _ (f : Layout) (v w : View) (ready : IsReady f v) (va pa len : ℕ) (prot
       levels = range.levels ∙ ready.levels;
       full = full;
     };
-    frames = range.frames;
+    machine = same_machine range;
     answers = is;
     book = (λ i. record { first = range.first i; count = range.count i; blocks = blocks_of (book.pieces i); tables = book.tables i; top = book.top i })
         ∙ sym same ∙ ap (λ (x : MapAnswer). after_map x after_it (book_in v)) is;
@@ -116,19 +113,18 @@ module _ (f : Layout) (v w : View) (ready : IsReady f v) (va pa len : ℕ) (prot
   -- it wants frames
   pub wants : refusal ≡ None → v.frames < linked_of v + length (lacking f v blocks asked) → IsRefused f ⊥ v w → MapsAs f v w va pa len prot mapping.Frames
   wants e more stays =
-      kept stays.range stays.book stays.path stays.prepared stays.end mapping.Frames (sym (answer_by None true e (short_is true (lt-ltb v.frames (linked_of v + length (lacking f v blocks asked)) more)))) refl
+      kept stays.range stays.book stays.path stays.prepared stays.end mapping.Frames (sym (answer_by None true e (lt-ltb v.frames (linked_of v + length (lacking f v blocks asked)) more))) refl
 
   -- it is done
   pub maps : refusal ≡ None → linked_of v + length (lacking f v blocks asked) ≤ v.frames → IsMapped f ⊥ v w blocks asked → MapsAs f v w va pa len prot mapping.Mapped
   maps e enough done =
-      let is : map_answer (machine f v.frames) (book_in v) va pa len prot ≡ mapping.Mapped = answer_by None false e (short_is false (le-ltb v.frames (linked_of v + length (lacking f v blocks asked)) enough)) in
+      let is : map_answer (machine_in f v) (book_in v) va pa len prot ≡ mapping.Mapped = answer_by None false e (le-ltb v.frames (linked_of v + length (lacking f v blocks asked)) enough) in
       let now : blocks_of w.pieces ≡ (mapped f v.levels (book_of v blocks) asked.first asked.count asked.out prot).blocks = blocks_are f w _ done.rest in
       record {
         ready = record { rest = subst (IsAtRest f w) (sym now) done.rest; levels = done.range.levels ∙ ready.levels; full = full };
-        frames = done.range.frames;
+        machine = same_machine done.range;
         answers = sym is;
         book = (λ i. record { first = done.range.first i; count = done.range.count i; blocks = now i; tables = done.tables i; top = done.top i })
-            ∙ ap (λ (l : ℕ). mapped f l (book_in v) asked.first asked.count asked.out prot) ready.levels
             ∙ ap (λ (x : MapAnswer). after_map x after_it (book_in v)) (sym is);
       }
 

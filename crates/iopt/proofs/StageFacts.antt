@@ -1,14 +1,16 @@
 -- What a script that runs meets.
-use Rattle.std.proofs.Common.{◌≡◌, ℕ, List, [], ◌∷◌, Option, None, Some, Bool, true, false, refl, ap, sym, ◌∙◌, inl, inr}
+use Rattle.std.proofs.Common.{◌≡◌, ℕ, List, [], ◌∷◌, Option, None, Some, true, false, refl, sym, subst, inl, inr}
 use Rattle.std.specs.Prelude.{IsTrue, IsNone, IfOk, IfErr, Result, Ok, Err}
 use Rattle.std.proofs.lemmas.Bool.{cases_Bool, and_from}
+use Rattle.pt_stream.specs.Bytes.{ConsumesAll}
 use Rattle.pt_model.specs.declared.command.Command.{Command}
 use Rattle.pt_script.specs.declared.whole.Script.{Script}
 use Rattle.pt_script.specs.declared.error.ScriptError.{ScriptError}
 use Rattle.pt_script.specs.declared.error.ScriptError.TheVariants.{Bad, Memory}
 use Rattle.pt_script.specs.Scripts.{text_in}
 use Rattle.iopt.specs.Built.{is_built, are_built}
-use Rattle.iopt.specs.Stage.{first_unbuilt, layout_of, unbuilt_line, IsRunOf, IsAnswered, IsRefusedFor, IsStopped}
+use Rattle.iopt.specs.Stage.{first_unbuilt, layout_of, unbuilt_line, IsRunOf, IsAnswered, IsRefusedFor, IsStopped, WhatRunsIsNotRefused}
+use Rattle.iopt.specs.Top.{CanRun, IsDoneWithMemory, script_status}
 
 never : {A : Type 0} → (x : A) → Some x ≡ None → ⊥
 never x e = cc
@@ -39,3 +41,11 @@ pub refuses : {T : Type 0} → (text : List ℕ) (s : Script) (result : Result T
 refuses text s (Ok r) is h = tt
 refuses text s (Err Memory) is h = tt
 refuses text s (Err (Bad line reason)) is h = inr (h.0, record { script = s; is_script = is; first = h.1 })
+
+-- a run of a script that runs ends done, but for want of memory
+pub script_ends : WhatRunsIsNotRefused → (left left' : Option (List ℕ)) (text : List ℕ) (e : ScriptError) → CanRun left → ConsumesAll left left' text →
+    IsRefusedFor text e → IsDoneWithMemory (script_status e)
+script_ends law None left' text e can all refused = absurd can
+script_ends law (Some xs) left' text Memory can all refused = inr refl
+script_ends law (Some xs) left' text (Bad line reason) can all refused =
+    absurd (law xs line reason can.1 (subst (λ (bytes : List ℕ). IsRefusedFor bytes (Bad line reason)) all.0 refused))

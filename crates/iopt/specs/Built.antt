@@ -16,5 +16,6 @@ is_built _ = false
 abbrev pub are_built : List Command → Bool
 are_built commands = list_all (λ c. is_built c.what) commands
 
-abbrev pub machine : Layout → (frames : ℕ) → Machine
-machine f frames = record { layout = f; levels = f.levels; frames = frames }
+-- what runs a script of this format, with so many levels from the start and so many frames
+abbrev pub machine : Layout → (levels frames : ℕ) → Machine
+machine f levels frames = record { layout = f; levels = levels; frames = frames }

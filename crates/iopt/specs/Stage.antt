@@ -45,12 +45,16 @@ abbrev pub unbuilt_line : Option Layout → Script → Option ℕ
 unbuilt_line None s = Some 1
 unbuilt_line (Some f) s = unbuilt_in s
 
+-- all lines of a script run, and the replies are the text of its run on a layout
+pub record IsRunOn (layout : Layout) (script : Script) (replies : List ℕ) : Type 0 where
+  pub runs : unbuilt_in script ≡ None
+  pub replies_are : replies ≡ replies_text (run_of (machine layout script.levels script.frames) script.body)
+
 -- the replies to a script that runs are the text of its run
 pub record IsRunOf (script : Script) (replies : List ℕ) : Type 0 where
   pub layout : Layout
   pub runs_on : layout_of script.format ≡ Some layout
-  pub runs : unbuilt_in script ≡ None
-  pub replies_are : replies ≡ replies_text (run_of (machine layout script.frames) script.body)
+  pub run : IsRunOn layout script replies
 
 -- the replies to a text: it is that of a script that runs, and they are the text of its run
 pub record IsAnswered (text replies : List ℕ) : Type 0 where
@@ -71,6 +75,16 @@ IsRefusal text line reason = IsBadAt text line reason ⊎ ((reason ≡ Unbuilt) 
 abbrev pub IsRefusedFor : (text : List ℕ) → ScriptError → Type 0
 IsRefusedFor text Memory = Unit {0}
 IsRefusedFor text (Bad line reason) = IsRefusal text line reason
+
+-- the text of a script all of whose lines run
+pub record IsRunnable (text : List ℕ) : Type 0 where
+  pub script : Script
+  pub is_script : text ≡ text_in script
+  pub runs : unbuilt_line (layout_of script.format) script ≡ None
+
+-- the text of a script that runs is refused at no line
+abbrev pub WhatRunsIsNotRefused : Type 0
+WhatRunsIsNotRefused = (text : List ℕ) (line : ℕ) (reason : Reason) → IsRunnable text → ¬ IsRefusal text line reason
 
 -- this script stops at a line that doesn't run, or no memory was found
 abbrev pub IsStopped : (unbuilt : Option ℕ) → ScriptError → Type 0

@@ -7,6 +7,11 @@
 //! run. `main` makes the real words, input and output, calls it, and prints the line of its status.
 #![tactic(auto)]
 
+ghost use Rattle.std.specs.Prelude.{◌≡◌, IfErr};
+ghost use Rattle.std.specs.Process.{exit_status};
+ghost use Rattle.iopt.specs.Ends.{exit_code};
+ghost use Rattle.iopt.specs.Top.{IsUnread, IsUnreadBy};
+
 #[cfg(test)]
 mod book_tests;
 mod runner;
@@ -24,19 +29,39 @@ use crate::status::{Status, status_text};
 use crate::top::run;
 use crate::words::Words;
 use pt_stream::{StdSink, StdSource};
-use std::env;
 use std::process::ExitCode;
+use std::{env, io};
+
+/// How a run ends whose command line wasn't read.
+fn words_status(error: io::Error) -> Status
+    ensures { IsUnreadBy error result }
+{
+    match error.kind() {
+        io::ErrorKind::OutOfMemory => Status::Memory,
+        _ => Status::Usage,
+    }
+}
 
 /// The words of the command line, behind the program's name.
-fn command_line(rt: &HostRuntime) -> Result<Words, Status> {
+fn command_line(rt: &HostRuntime) -> Result<Words, Status>
+    ensures { IfErr result IsUnread }
+{
     let mut words = Words::new(rt.alloc());
-    let args = env::args(rt).map_err(|_| Status::Usage)?;
+    let args = env::args(rt).map_err(words_status)?;
     for arg in args.skip(1) {
         words.push(arg.as_str()).map_err(|_| Status::Memory)?;
     }
     Ok(words)
 }
 
+/// The exit status that tells how a run ended.
+fn exit_with(status: &Status) -> ExitCode
+    ensures { exit_status result ≡ exit_code status.now }
+{
+    ExitCode::from(status.exit_code())
+}
+
+/// It has no contract: an entry point may have none.
 fn main(rt: HostRuntime) -> ExitCode {
     let status = match command_line(&rt) {
         Ok(words) => {
@@ -47,10 +72,11 @@ fn main(rt: HostRuntime) -> ExitCode {
         Err(status) => status,
     };
     print_status(&rt, &status);
-    ExitCode::from(status.exit_code())
+    exit_with(&status)
 }
 
-/// Prints the line of a status on standard error. Where that fails, only the exit status tells it.
+/// Prints the line of a status on standard error. Where that fails, only the exit status tells it. No clause can say
+/// what standard error takes.
 fn print_status(rt: &HostRuntime, status: &Status) {
     if let Ok(line) = status_text(rt.alloc(), status) {
         if let Ok(line) = str::from_utf8(&line) {

@@ -56,21 +56,23 @@ fn answer<F: Format>(plain: &mut Plain<F>, what: What) -> Answer
     }
 }
 
-/// Runs commands on a new space of so many frames, of which the first `hold` after the root's table are in
-/// the purse from the start, and answers the text of the replies.
+/// Runs commands on a new space of so many frames, with so many levels from the start and the first `hold` frames
+/// after the root's table in the purse, and answers the text of the replies.
 pub fn run_commands<F: Format>(
     alloc: Global,
+    levels: u32,
     frames: u32,
     hold: u32,
     commands: &[Command],
 ) -> Result<Vec<u8>, Memory>
     requires fixed { F.layout.grows ≡ false }
+    requires levels { levels ≡ F.layout.levels }
     requires few { frames ≤ frame_limit F.layout }
     requires hold { hold < frames }
     requires built { IsTrue (are_built commands.now) }
-    ensures { IfOk result (λ text. text.items ≡ replies_text (run_of (machine F.layout frames) commands.now)) }
+    ensures { IfOk result (λ text. text.items ≡ replies_text (run_of (machine F.layout levels frames) commands.now)) }
 {
-    let mut plain = Plain::<F>::make(alloc, frames, F::LEVELS, hold)?;
+    let mut plain = Plain::<F>::make(alloc, frames, levels, hold)?;
     let mut text = Vec::new(alloc);
     for command in commands {
         let reply = Reply {

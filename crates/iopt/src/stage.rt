@@ -1,15 +1,9 @@
 //! The scripts that the program runs so far.
 
-ghost use Rattle.std.specs.Prelude.{◌≡◌, ℕ, List, ◌<◌, ◌≤◌, None, false, IsTrue, IsNone, IfOk, IfErr};
+ghost use Rattle.std.specs.Prelude.{◌≡◌, ◌<◌, ◌≤◌, false, IsTrue, IsNone, IfOk, IfErr};
 ghost use Rattle.pt_model.specs.Words.{frame_limit};
-ghost use Rattle.pt_model.specs.Run.{run_of};
-ghost use Rattle.pt_model.specs.Text.{replies_text};
-ghost use Rattle.pt_model.specs.declared.command.Name.{Name};
-ghost use Rattle.iopt.specs.Built.{is_built, are_built, machine};
-ghost use Rattle.iopt.specs.Stage.{layout_of, first_unbuilt, first_ask, unbuilt_in, unbuilt_line, IsRunOf, IsAnswered, IsRefusedFor, IsStopped, IsRefusal, IsUnbuilt};
-ghost use Rattle.pt_script.specs.declared.whole.Script.{Script};
-ghost use Rattle.pt_script.specs.declared.error.Reason.{Reason};
-ghost use Rattle.pt_script.specs.Scripts.{text_in};
+ghost use Rattle.iopt.specs.Built.{is_built, are_built};
+ghost use Rattle.iopt.specs.Stage.{layout_of, first_unbuilt, first_ask, unbuilt_in, unbuilt_line, IsRunOn, IsRunOf, IsAnswered, IsRefusedFor, IsStopped, WhatRunsIsNotRefused};
 
 use crate::runner::run_commands;
 use fmt_vtdss::VtdSs;
@@ -58,9 +52,10 @@ fn unbuilt_in(script: &Script) -> Option<u32>
 /// The replies to a script of this format, or its first line that doesn't run.
 fn run_script<F: Format>(alloc: Global, script: &Script) -> Result<Vec<u8>, ScriptError>
     requires fixed { F.layout.grows ≡ false }
+    requires levels { script.now.levels ≡ F.layout.levels }
     requires few { script.now.frames ≤ frame_limit F.layout }
     requires hold { script.now.hold < script.now.frames }
-    ensures answered { IfOk result (λ replies. (unbuilt_in script.now ≡ None) × (replies.items ≡ replies_text (run_of (machine F.layout script.now.frames) script.now.body))) }
+    ensures answered { IfOk result (λ replies. IsRunOn F.layout script.now replies.items) }
     ensures refused { IfErr result (IsStopped (unbuilt_in script.now)) }
 {
     if let Some(line) = unbuilt_in(script) {
@@ -69,7 +64,8 @@ fn run_script<F: Format>(alloc: Global, script: &Script) -> Result<Vec<u8>, Scri
             reason: Reason::Unbuilt,
         });
     }
-    run_commands::<F>(alloc, script.frames, script.hold, script.body.commands()).map_err(
+    let commands = script.body.commands();
+    run_commands::<F>(alloc, script.levels, script.frames, script.hold, commands).map_err(
         |_| ScriptError::Memory,
     )
 }
@@ -103,7 +99,7 @@ pub(crate) fn replies_to(alloc: Global, text: &[u8]) -> Result<Vec<u8>, ScriptEr
 
 /// The text of a script that runs is refused at no line.
 pub(crate) fn what_runs_is_not_refused()
-    ensures { (text : List ℕ) (script : Script) (line : ℕ) (reason : Reason) → text ≡ text_in script → unbuilt_line (layout_of script.format) script ≡ None → ¬ IsRefusal text line reason }
+    ensures { WhatRunsIsNotRefused }
 {
     bad_is_no_script();
     one_script();

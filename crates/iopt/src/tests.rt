@@ -205,6 +205,46 @@ fn inputs_are_refused_at_their_first_bad_line(rt: HostRuntime) -> Result<(), Fai
     Ok(())
 }
 
+// A script that is answered in each way, and its replies to the letter.
+const EACH_REPLY: (&[u8], &[u8]) = (
+    b"format vtdss3\nframes 4\nhold 0\nmap 0x1000 0x2000 0x1000 rw\nmap 0x2000 0x3000 0x1000 r\n\
+        map 0x1001 0x2000 0x1000 rw\nmap 0x7ffffff000 0x0 0x2000 rw\nmap 0x5000 0xffffffffff000 0x2000 r\n\
+        map 0x0 0x8000 0x2000 rw\nmap 0x40000000 0x8000 0x1000 rw\nlookup 0x1abc\nlookup 0x2abc\nlookup 0x3000\n\
+        lookup 0x8000000000\nclose\nend\n",
+    b"4 map ok\n5 map ok\n6 map misaligned\n7 map outside\n8 map output\n9 map occupied 0x1000\n10 map frames\n\
+        11 lookup 0x2abc rw\n12 lookup 0x3abc r\n13 lookup none\n14 lookup outside\n",
+);
+
+#[test]
+fn each_reply_has_its_text(rt: HostRuntime) -> Result<(), Fail> {
+    let (status, sink) = outcome(rt.alloc(), EACH_REPLY.0)?;
+    assert_eq!(rt; status, Status::Done);
+    assert_eq!(rt; sink.bytes(), EACH_REPLY.1);
+    Ok(())
+}
+
+#[test]
+fn each_reason_has_its_name(rt: HostRuntime) -> Result<(), Fail> {
+    let cases = [
+        (Reason::Ended, "refused at line 1048576: ended"),
+        (Reason::Word, "refused at line 1048576: word"),
+        (Reason::Shape, "refused at line 1048576: shape"),
+        (Reason::Argument, "refused at line 1048576: argument"),
+        (Reason::Limit, "refused at line 1048576: limit"),
+        (Reason::After, "refused at line 1048576: after"),
+        (Reason::Unbuilt, "refused at line 1048576: unbuilt"),
+    ];
+    for (reason, line) in cases {
+        let status = Status::Refused {
+            line: 1_048_576,
+            reason,
+        };
+        let text = status_text(rt.alloc(), &status)?;
+        assert_eq!(rt; text.as_slice(), line.as_bytes());
+    }
+    Ok(())
+}
+
 #[test]
 fn an_input_has_a_limit(rt: HostRuntime) -> Result<(), Fail> {
     let most = vec![in rt.alloc(); b'a'; 1_048_576]?;

@@ -1,4 +1,4 @@
-use Rattle.std.proofs.Common.{◌≡◌, rules}
+use Rattle.std.proofs.Common.{rules}
 use Rattle.iopt.specs.Stage.{first_ask}
 use Rattle.iopt.proofs.StageFacts.{none_unbuilt}
 use Rattle.iopt.proofs.stage.unbuilt_in.Goals as goal

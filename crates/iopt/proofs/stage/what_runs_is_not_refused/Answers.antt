@@ -8,10 +8,10 @@ never : (line : ℕ) → None ≡ Some line → ⊥
 never line e = cc
 
 pub returns : goal.returns
-returns c text script line reason is runs (inl bad) =
-    c.bad_is_no_script.ensures text line reason bad (lines_in script) script.lawful is
-returns c text script line reason is runs (inr (unbuilt, found)) =
-    let same : script ≡ found.script = c.one_script.ensures script found.script (sym is ∙ found.is_script) in
+returns c text line reason can (inl bad) =
+    c.bad_is_no_script.ensures text line reason bad (lines_in can.script) can.script.lawful can.is_script
+returns c text line reason can (inr (unbuilt, found)) =
+    let same : can.script ≡ found.script = c.one_script.ensures can.script found.script (sym can.is_script ∙ found.is_script) in
     let still : unbuilt_line (layout_of found.script.format) found.script ≡ None =
-    subst (λ (s : Script). unbuilt_line (layout_of s.format) s ≡ None) same runs in
+    subst (λ (s : Script). unbuilt_line (layout_of s.format) s ≡ None) same can.runs in
     never line (sym still ∙ found.first)

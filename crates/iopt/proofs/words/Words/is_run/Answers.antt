@@ -1,4 +1,4 @@
-use Rattle.std.proofs.Common.{◌≡◌, List, [], ◌∷◌, map, ap, ◌∙◌, sym, ℕ}
+use Rattle.std.proofs.Common.{◌≡◌, [], ◌∷◌, map, ap, ◌∙◌, sym}
 use Rattle.std.specs.String.{string_bytes}
 use Rattle.iopt.proofs.WordFacts.{one_is_first, same_one}
 use Rattle.iopt.proofs.words.Words.is_run.Goals as goal
