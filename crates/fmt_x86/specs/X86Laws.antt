@@ -55,7 +55,7 @@ pointer_is level frame above few =
     let writes : is_set 1 word ≡ true = eq-eqb _ _ (let b = w.bit_1 in omega arith) in
     rw (present, upper, small, w.only, address_is, writes) refl
 
-reads_written : ReadsWritten step_at of_leaf of_pointer
+pub reads_written : ReadsWritten step_at of_leaf of_pointer
 reads_written = record { empty = λ level. refl; leaf_is = leaf_is; pointer_is = pointer_is }
 
 pub has_constants : (levels : ℕ) → HasConstants (layout levels) 12 9 (11 + 9 * levels) 52 levels levels false false

@@ -1,8 +1,9 @@
 //! The words of entries.
 
 ghost use Rattle.std.specs.Prelude.{◌≡◌, ℕ, ◌+◌, ◌*◌, ◌/◌, ◌%◌, ◌^◌, ◌<◌, ◌≤◌, MatchOption, IsTrue};
-ghost use Rattle.pt_format.specs.Words.{HasSizes, MayBeLeaves, GoBy, IsFrameAddress, IsTableAddress, LeafPage, IsLeaf, IsPointer, IsWritten};
+ghost use Rattle.pt_format.specs.Words.{HasSizes, MayBeLeaves, GoBy, IsFrameAddress, IsTableAddress, IsLeaf, IsPointer, IsWritten};
 ghost use Rattle.pt_format.specs.Reading.{ReadsAs};
+ghost use Rattle.pt_format.specs.Manual.{IsOutput};
 ghost use Rattle.pt_model.specs.Layout.{input_pages, output_pages};
 ghost use Rattle.pt_model.specs.declared.block.Prot.{Prot};
 ghost use Rattle.pt_format.specs.FourKib.{leaf, pointer, write_bit, size_bit, IsLeafOf, IsPointerOf};
@@ -177,13 +178,13 @@ pub fn read_word<const L: u32>(level: u32, word: u64) -> Read
     }
 }
 
-/// The output page of a page under a leaf.
+/// The output page of a page by a leaf.
 pub fn out_of<const L: u32>(level: u32, word: u64, page: u64) -> u64
     requires some { 4 ≤ L }
     requires few { L ≤ 5 }
     requires a_leaf { (log2 : ℕ) × (prot : Prot) × IsLeaf (layout L) level word log2 prot }
     requires a_page { page < input_pages (layout L) }
-    ensures page { LeafPage (layout L) level word page result }
+    ensures page { IsOutput (layout L) level word page result }
     ensures within { result < output_pages (layout L) }
 {
     out_under(level, word, page)

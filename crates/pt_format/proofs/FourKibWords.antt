@@ -8,7 +8,7 @@ use Rattle.std.proofs.lemmas.Grind.{common_steps}
 use Rattle.pt_model.specs.declared.block.Prot.{Prot}
 use Rattle.pt_model.specs.declared.block.Prot.TheVariants.{Read, ReadWrite}
 use Rattle.pt_model.specs.Layout.{Layout, Found, Reached, is_size, level_of_size, may_write}
-use Rattle.pt_format.specs.Words.{HasSizes, MayBeLeaf, MayBeLeaves, GoBy, IsLeaf, IsPointer, IsWritten, a_leaf, a_pointer, LeafPage, IsUnder}
+use Rattle.pt_format.specs.Words.{HasSizes, MayBeLeaf, MayBeLeaves, GoBy, IsLeaf, IsPointer, IsWritten, a_leaf, a_pointer, IsUnder}
 use Rattle.pt_format.specs.FourKib.{layout, leaf, pointer, write_bit, size_bit, AreBits, IsLeafOf}
 use Rattle.pt_format.proofs.EntryBits.{or_low, and_low, one_bit_set}
 use Rattle.pt_format.proofs.Permissions.{common_all}
@@ -190,15 +190,6 @@ pub place_in_block : (of_leaf of_pointer levels input : ℕ) (step : ℕ → ℕ
 place_in_block of_leaf of_pointer levels input step walk level log2 out part first page prot may under =
     let aligned = under.aligned in let from = under.from in let to = under.to in
     grind (arith, common_steps)
-
--- the output page of a page under a leaf, and its bound
-pub leaf_page : (of_leaf of_pointer levels input : ℕ) (step : ℕ → ℕ → ℕ → Found) (walk : List ℕ → ℕ → Reached)
-    (level word page : ℕ) → of_leaf < 2 ^ 7 → of_leaf % 2 ^ 2 ≡ 1 →
-    LeafPage (layout of_leaf of_pointer levels input step walk) level word page (word / 2 ^ 12 % 2 ^ 40 + page % 2 ^ (9 * level))
-leaf_page of_leaf of_pointer levels input step walk level word page low e first log2 out part prot may is under =
-    let l = leaf_of_may of_leaf of_pointer levels input step walk level log2 out part word prot may is in
-    let o : word / 2 ^ 12 % 2 ^ 40 ≡ out = ap (λ n. n / 2 ^ 12 % 2 ^ 40) is ∙ leaf_out of_leaf level out prot low e l.in_output in
-    omega (arith, o, place_in_block of_leaf of_pointer levels input step walk level log2 out part first page prot may under)
 
 pub page_within : (level out page : ℕ) → level < 3 → out < 2 ^ 40 → out % 2 ^ (9 * level) ≡ 0 → out + page % 2 ^ (9 * level) < 2 ^ 40
 page_within zero out page low within aligned = omega arith

@@ -5,3 +5,4 @@ pub mod PageFacts
 mod UnsignedRanges
 pub mod FourKibLaws
 pub mod FourKibWords
+pub mod LeafPages

@@ -1,12 +1,23 @@
 -- The manual's step and walk, over the words that a format writes.
 use Rattle.std.specs.Prelude.{◌≡◌, ℕ, suc, ◌+◌, ◌-◌, ◌*◌, ◌/◌, ◌%◌, ◌^◌, ◌<◌, ◌≤◌, List, Some, None}
 use Rattle.pt_model.specs.declared.block.Prot.{Prot}
-use Rattle.pt_model.specs.Layout.{Layout, Found, nothing, page, table, alien, Reached, nowhere, at_byte, strange, pages_of_entry, pages_of_table}
+use Rattle.pt_model.specs.Layout.{Layout, Found, nothing, page, table, alien, Reached, nowhere, at_byte, strange, pages_of_entry, pages_of_table, input_pages, output_pages}
 use Rattle.pt_model.specs.Pages.{page_at}
 use Rattle.pt_model.specs.Words.{IsSpace, frames_in, entry, root_frame, root_level, frame_address}
 use Rattle.pt_format.specs.Words.{MayBeLeaf, IsTableLevel, IsTableAddress, IsLeaf, IsUnder}
 
--- the words that a format writes mean to the manual's step what they say
+-- the manual's step at a word gives a page, for this input page
+pub record GivesPage (f : Layout) (level word here : ℕ) (prot : Prot) : Type 0 where
+  pub out : ℕ
+  pub within : out < output_pages f
+  pub step_is : f.step level word here ≡ page out prot
+
+-- the output page of an input page under a leaf is that of the manual's step, wherever the page lies
+abbrev pub IsOutput : Layout → (level word here out : ℕ) → Type 0
+IsOutput f level word here out = (log2 : ℕ) (prot : Prot) → IsLeaf f level word log2 prot → f.step level word here ≡ page out prot
+
+-- The words that a format writes mean to the manual's step what they say. A page under a leaf's own part of its block is that page of
+-- the block; for any other page the step gives a page too.
 pub record StepsAgree (f : Layout) : Type 0 where
   pub empty : (level here : ℕ) → level < f.levels → f.step level 0 here ≡ nothing
   pub pointer : (level address here : ℕ) → IsTableLevel f level → IsTableAddress f address →
@@ -14,6 +25,8 @@ pub record StepsAgree (f : Layout) : Type 0 where
   pub leaf : (level log2 out part first here : ℕ) (prot : Prot) → MayBeLeaf f level log2 out prot part →
       IsUnder f level log2 first part here →
       f.step level (f.leaf level log2 out prot part) here ≡ page (out + (here - first)) prot
+  pub any_page : (level word log2 here : ℕ) (prot : Prot) → IsLeaf f level word log2 prot → here < input_pages f →
+      GivesPage f level word here prot
 
 -- a word that reads as empty, as a leaf, or as the pointer to one of n frames
 pub data IsRead (f : Layout) (n level word : ℕ) : Type 0 where

@@ -63,12 +63,6 @@ pub record IsUnder (f : Layout) (level log2 first part page : ℕ) : Type 0 wher
   pub from : first + part * pages_of_entry f level ≤ page
   pub to : page < first + (part + 1) * pages_of_entry f level
 
-abbrev pub LeafPage : Layout → ℕ → ℕ → ℕ → ℕ → Type 0
-LeafPage f level word page result =
-    (first log2 out part : ℕ) (prot : Prot) → MayBeLeaf f level log2 out prot part →
-    word ≡ f.leaf level log2 out prot part → IsUnder f level log2 first part page →
-    result ≡ out + (page - first)
-
 -- a word that a format writes in a table of this level
 pub data IsWritten (f : Layout) (level word : ℕ) : Type 0 where
   a_leaf : (log2 : ℕ) (prot : Prot) → IsLeaf f level word log2 prot → IsWritten f level word

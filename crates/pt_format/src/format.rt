@@ -3,10 +3,10 @@
 ghost use Rattle.std.specs.Prelude.{◌≡◌, ℕ, ◌<◌, ◌≤◌, IsTrue, Bool};
 ghost use Rattle.pt_model.specs.Layout.{Layout, input_pages, output_pages, is_common};
 ghost use Rattle.pt_model.specs.declared.block.Prot.{Prot};
-ghost use Rattle.pt_format.specs.Words.{HasSizes, MayBeLeaf, MayBeLeaves, GoBy, IsTableAddress, IsTableLevel, LeafPage, IsLeaf, IsPointer, IsWritten};
+ghost use Rattle.pt_format.specs.Words.{HasSizes, MayBeLeaf, MayBeLeaves, GoBy, IsTableAddress, IsTableLevel, IsLeaf, IsPointer, IsWritten};
 ghost use Rattle.pt_format.specs.Laws.{HasConstants, IsLayout, WordsDiffer};
 ghost use Rattle.pt_format.specs.Reading.{ReadsAs};
-ghost use Rattle.pt_format.specs.Manual.{StepsAgree, IsWalk};
+ghost use Rattle.pt_format.specs.Manual.{IsOutput, StepsAgree, IsWalk};
 
 use crate::read::Read;
 use crate::word_run::WordRun;
@@ -117,11 +117,11 @@ pub trait Format: Drop {
         requires a_pointer { (address : ℕ) × IsPointer layout level word address }
         ensures { (address : ℕ) → IsPointer layout level word address → result ≡ address };
 
-    /// The output page of a page under a leaf.
+    /// The output page of a page by a leaf, to the manual's step: any page of the space, and any word of a block.
     fn out_of(level: u32, word: u64, page: u64) -> u64
         requires a_leaf { (log2 : ℕ) × (prot : Prot) × IsLeaf layout level word log2 prot }
         requires a_page { page < input_pages layout }
-        ensures page { LeafPage layout level word page result }
+        ensures page { IsOutput layout level word page result }
         ensures within { result < output_pages layout };
 
     ghost has_constants: { HasConstants layout GRANULE INDEX INPUT OUTPUT START LEVELS GROWS SIGNED };

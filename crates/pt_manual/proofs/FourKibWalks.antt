@@ -10,9 +10,10 @@ use Rattle.pt_model.specs.declared.block.Prot.TheVariants.{Read, ReadWrite}
 use Rattle.pt_model.specs.Layout.{Layout, page, table, at_byte, Reached, may_write}
 use Rattle.pt_model.specs.Pages.{page_at}
 use Rattle.pt_model.specs.Words.{frames_in, root_frame, root_level, entry}
-use Rattle.pt_format.specs.Manual.{StepsAgree, IsWalk, IsRooted, IsRead, an_empty, a_leaf, a_table, follow, entry_for}
-use Rattle.pt_format.specs.FourKib.{leaf, pointer}
-use Rattle.pt_format.proofs.FourKibWords.{leaf_of_may, place_in_block}
+use Rattle.pt_format.specs.Words.{IsLeaf}
+use Rattle.pt_format.specs.Manual.{IsOutput, StepsAgree, IsWalk, IsRooted, IsRead, an_empty, a_leaf, a_table, follow, entry_for}
+use Rattle.pt_format.specs.FourKib.{AreBits, leaf, pointer}
+use Rattle.pt_format.proofs.FourKibWords.{leaf_of_may, leaf_out, page_within, place_in_block}
 use Rattle.pt_manual.specs.SpaceWords.{names_frame}
 use Rattle.pt_manual.specs.declared.step.Step.{Step}
 use Rattle.pt_manual.specs.declared.step.Step.TheVariants.{NotPresent, Page, Next}
@@ -38,6 +39,28 @@ walked_is : (prot : Prot) (level out : ℕ) → reached (page_as level out (allo
 walked_is Read level out = refl
 walked_is ReadWrite level out = refl
 
+-- what the step gives at a leaf's word, for any page
+pub leaf_step : (step : ℕ → ℕ → Step) (of_leaf of_pointer levels input : ℕ) → ReadsWritten step of_leaf of_pointer →
+    (level word log2 here : ℕ) (prot : Prot) → (l : IsLeaf (layout_by step of_leaf of_pointer levels input) level word log2 prot) →
+    step_by step level word here ≡ page (l.out + here % 2 ^ (9 * level)) prot
+leaf_step step of_leaf of_pointer levels input reads level word log2 here prot l =
+    let of = leaf_of_may of_leaf of_pointer levels input (step_by step) (λ words address. reached (walk_by step words levels input address))
+    level log2 l.out l.part word prot l.may l.word_is in
+    let out_is : l.out * 2 ^ 12 / 2 ^ 12 + here % 2 ^ (9 * level) ≡ l.out + here % 2 ^ (9 * level) = omega arith in
+    ap (λ (w : ℕ). found level here (step (level + 1) w)) l.word_is
+    ∙ ap (found level here) (reads.leaf_is level l.out prot of.low_level of.in_output of.aligned)
+    ∙ ap (λ n. found_page n (allowed true (may_write prot))) out_is ∙ allowed_is prot (l.out + here % 2 ^ (9 * level))
+
+-- and the output page that is read from the word
+pub output_is : (step : ℕ → ℕ → Step) (of_leaf of_pointer levels input : ℕ) → ReadsWritten step of_leaf of_pointer → AreBits of_leaf of_pointer →
+    (level word here : ℕ) → IsOutput (layout_by step of_leaf of_pointer levels input) level word here (word / 2 ^ 12 % 2 ^ 40 + here % 2 ^ (9 * level))
+output_is step of_leaf of_pointer levels input reads bits level word here log2 prot l =
+    let of = leaf_of_may of_leaf of_pointer levels input (step_by step) (λ words address. reached (walk_by step words levels input address))
+    level log2 l.out l.part word prot l.may l.word_is in
+    let o : word / 2 ^ 12 % 2 ^ 40 ≡ l.out = ap (λ n. n / 2 ^ 12 % 2 ^ 40) l.word_is ∙ leaf_out of_leaf level l.out prot bits.leaf_low bits.leaf_end of.in_output in
+    leaf_step step of_leaf of_pointer levels input reads level word log2 here prot l
+    ∙ ap (λ (n : ℕ). page (n + here % 2 ^ (9 * level)) prot) (sym o)
+
 pub steps_agree : (step : ℕ → ℕ → Step) (of_leaf of_pointer levels input : ℕ) → ReadsWritten step of_leaf of_pointer →
     StepsAgree (layout_by step of_leaf of_pointer levels input)
 steps_agree step of_leaf of_pointer levels input reads = record {
@@ -47,13 +70,19 @@ steps_agree step of_leaf of_pointer levels input reads = record {
       ∙ ap (found level here) (reads.pointer_is level frame.frame at.above frame.in_limit)
       ∙ ap table (sym frame.address_is);
   leaf = λ level log2 out part first here prot may under.
-      let l = leaf_of_may of_leaf of_pointer levels input (step_by step) (λ words address. reached (walk_by step words levels input address))
-      level log2 out part (leaf of_leaf level out prot) prot may refl in
       let at = place_in_block of_leaf of_pointer levels input (step_by step) (λ words address. reached (walk_by step words levels input address))
       level log2 out part first here prot may under in
-      let out_is : out * 2 ^ 12 / 2 ^ 12 + here % 2 ^ (9 * level) ≡ out + (here - first) = omega (arith, at) in
-      ap (found level here) (reads.leaf_is level out prot l.low_level l.in_output l.aligned)
-      ∙ ap (λ n. found_page n (allowed true (may_write prot))) out_is ∙ allowed_is prot (out + (here - first));
+      leaf_step step of_leaf of_pointer levels input reads level (leaf of_leaf level out prot) log2 here prot
+      (record { out = out; part = part; may = may; word_is = refl })
+      ∙ ap (λ (n : ℕ). page (out + n) prot) at;
+  any_page = λ level word log2 here prot l within.
+      let of = leaf_of_may of_leaf of_pointer levels input (step_by step) (λ words address. reached (walk_by step words levels input address))
+      level log2 l.out l.part word prot l.may l.word_is in
+      record {
+        out = l.out + here % 2 ^ (9 * level);
+        within = page_within level l.out here of.low_level of.in_output of.aligned;
+        step_is = leaf_step step of_leaf of_pointer levels input reads level word log2 here prot l;
+      };
 }
 
 picked : (b : Bool) (x here : ℕ) → (if b then Some x else None) ≡ Some here → (b ≡ true) × (x ≡ here)

@@ -1,6 +1,7 @@
 use Rattle.std.proofs.Common.{◌≡◌, ◌+◌, ◌-◌, arith}
 use Rattle.pt_model.specs.declared.block.Block.{Block}
 use Rattle.pt_walk.specs.Ways.{IsBlockOf}
+use Rattle.pt_format.proofs.LeafPages.{leaf_page}
 use Rattle.pt_walk.proofs.Leaves.{same_first, same_read, size_few}
 use Rattle.pt_walk.proofs.block.block_of.Given.{Over}
 use Rattle.pt_walk.proofs.block.block_of.Goals as goal
@@ -14,7 +15,7 @@ first_is g c b is =
     a.multiple a.at_most a.greatest
 
 out_is : (g : Over) (c : After-out_of g) (b : Block) (is : IsBlockOf g.F.Format.layout c.args.level c.args.word c.args.page b) → c.out_of.result ≡ b.out + (c.args.page - b.first)
-out_is g c b is = c.out_of.ensures.page b.first b.log2 b.out is.part b.prot is.may is.word_is is.under
+out_is g c b is = leaf_page g.met.F.Format.steps_agree c.out_of.ensures.page b.first b.log2 b.out is.part b.prot is.may is.word_is is.under
 
 pub align_down-first-requires : goal.align_down-first-requires
 align_down-first-requires g c =

@@ -2,6 +2,7 @@ use Rattle.std.proofs.Common.{◌≡◌, ℕ, ◌+◌, ◌-◌, ◌*◌, ◌%◌
 use Rattle.std.specs.Prelude.{bit_and}
 use Rattle.std.proofs.lemmas.Nat.{mod_below, pow_pos}
 use Rattle.pt_model.specs.declared.block.Prot.{Prot}
+use Rattle.pt_format.proofs.LeafPages.{leaf_page}
 use Rattle.pt_walk.proofs.Quotients.{masked}
 use Rattle.pt_walk.proofs.Bytes.{out_bytes, byte_made}
 use Rattle.pt_walk.proofs.translate.value_under.Given.{Over}
@@ -25,7 +26,7 @@ overflow_add-result g c =
 pub returns : goal.returns
 returns g c = λ first log2 out part prot may word under.
     let f = g.F.Format.layout in
-    let page : c.out_of-out.result ≡ out + (c.args.page - first) = c.out_of-out.ensures.page first log2 out part prot may word under in
+    let page : c.out_of-out.result ≡ out + (c.args.page - first) = leaf_page g.met.F.Format.steps_agree c.out_of-out.ensures.page first log2 out part prot may word under in
     let bits : c.GRANULE-2.result ≡ f.granule = c.GRANULE-2.ensures ∙ sym g.met.F.Format.has_constants.granule_is in
     let byte = byte_made f g.met.F.Format.lawful_layout c.out_of-out.result c.GRANULE-2.result
     (bit_and c.args.address (1 * 2 ^ c.GRANULE.result % 2 ^ 64 - 1)) c.args.address bits (offset g (goal.at.returns g c).After-GRANULE-2) c.out_of-out.ensures.within
