@@ -10,14 +10,13 @@
 //! second-stage paging entries. The profile leaves all that is optional at 0: snooping, memory types,
 //! execute permission, and accessed and dirty bits.
 //!
-//! It stands on the trait of formats, on numbers, and on the manual's walk. Each instance proves the
-//! laws of formats: what is written reads back, and means to the manual's walk what it says. No call
-//! takes memory.
+//! It stands on the family of such formats and on the manual's walk. An instance is its bits, its step and its
+//! levels, and proves the laws of formats: what is written reads back, and means to the manual's walk what it
+//! says. No call takes memory.
 #![tactic(auto)]
 
 mod entry;
 mod instances;
-mod words;
 
 pub use entry::Entry;
 pub use instances::VtdSs;

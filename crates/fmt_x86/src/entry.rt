@@ -1,8 +1,11 @@
 //! The bits of an entry.
 
 ghost use Rattle.std.specs.Prelude.{⊤, ◌≡◌, [], ◌∷◌, codes};
+ghost use Rattle.fmt_x86.specs.X86Words.{entries};
+ghost use Rattle.fmt_x86.specs.X86Laws as Laws;
 
 use bitflags::{Flag, Flags, bitflag_items};
+use pt_format::{EntryBits, Prot};
 
 #[derive(Clone, Copy, PartialEq, Eq, Debug)]
 pub struct Entry(u64);
@@ -37,5 +40,46 @@ impl Flags for Entry {
 
     fn from_bits_retain(bits: u64) -> Entry {
         Entry(bits)
+    }
+}
+
+impl EntryBits for Entry {
+    ghost entries = { entries };
+
+    ghost is_exact = { tt };
+
+    ghost are_bits = { Laws.are_bits };
+
+    ghost are_read = { Laws.are_read };
+
+    fn of_leaf(prot: Prot) -> Entry {
+        let mut bits = Entry::PRESENT;
+        bits.insert(Entry::USER);
+        bits.insert(Entry::ACCESSED);
+        bits.insert(Entry::DIRTY);
+        if prot == Prot::ReadWrite {
+            bits.insert(Entry::WRITABLE);
+        }
+        bits
+    }
+
+    fn of_pointer() -> Entry {
+        let mut bits = Entry::PRESENT;
+        bits.insert(Entry::WRITABLE);
+        bits.insert(Entry::USER);
+        bits.insert(Entry::ACCESSED);
+        bits
+    }
+
+    fn page_size() -> Entry {
+        Entry::PAGE_SIZE
+    }
+
+    fn permission(&self) -> Prot {
+        if self.contains(Entry::WRITABLE) {
+            Prot::ReadWrite
+        } else {
+            Prot::Read
+        }
     }
 }

@@ -13,14 +13,13 @@
 //! Source: Intel 64 and IA-32 Architectures Software Developer's Manual, volume 3, chapter on paging,
 //! 4-level paging and 5-level paging.
 //!
-//! It stands on the trait of formats, on numbers, and on the manual's walk. Each instance proves the
-//! laws of formats: what is written reads back, and means to the manual's walk what it says. No call
-//! takes memory.
+//! It stands on the family of such formats and on the manual's walk. An instance is its bits, its step and its
+//! levels, and proves the laws of formats: what is written reads back, and means to the manual's walk what it
+//! says. No call takes memory.
 #![tactic(auto)]
 
 mod entry;
 mod instances;
-mod words;
 
 pub use entry::Entry;
 pub use instances::X86;

@@ -1,8 +1,7 @@
-pub mod EntryBits
+pub mod BitFacts
 pub mod Frames
 pub mod Permissions
 pub mod PageFacts
 mod UnsignedRanges
-pub mod FourKibLaws
 pub mod FourKibWords
 pub mod LeafPages

@@ -1,10 +1,30 @@
 -- The permissions that every format states.
-use Rattle.std.proofs.Common.{refl}
-use Rattle.std.specs.Prelude.{IsTrue}
+use Rattle.std.proofs.Common.{◌≡◌, ℕ, ◌%◌, ◌^◌, ◌<◌, refl, ap, ◌∙◌, true, false}
+use Rattle.std.specs.Prelude.{IsTrue, bit_and, ◌==◌}
+use Rattle.std.proofs.lemmas.Bool.{both_ways}
 use Rattle.pt_model.specs.declared.block.Prot.{Prot}
 use Rattle.pt_model.specs.declared.block.Prot.TheVariants.{Read, ReadWrite}
 use Rattle.pt_model.specs.Layout.{is_common}
+use Rattle.pt_format.proofs.BitFacts.{and_end}
 
-pub common_all : (prot : Prot) → IsTrue (is_common prot)
-common_all Read = refl
-common_all ReadWrite = refl
+-- what holds of both
+pub of_common : (P : Prot → Type 0) → P Read → P ReadWrite → (prot : Prot) → IsTrue (is_common prot) → P prot
+of_common P read both Read stated = read
+of_common P read both ReadWrite stated = both
+
+-- The permission of a leaf by a bit that is set where writes are permitted, and not else.
+module _ (of_leaf : Prot → ℕ) (write : ℕ) (low : write < 2 ^ 7)
+    (clear : (bit_and (of_leaf Read) write == write) ≡ false) (set : (bit_and (of_leaf ReadWrite) write == write) ≡ true) where
+  pub both_by_bit : (bits : ℕ) (prot : Prot) → IsTrue (is_common prot) → bits % 2 ^ 7 ≡ of_leaf prot →
+      (bit_and bits write == write) ≡ true → ReadWrite ≡ prot
+  both_by_bit bits prot stated is test =
+      of_common (λ p. bits % 2 ^ 7 ≡ of_leaf p → ReadWrite ≡ p)
+      (λ e. absurd (both_ways _ (ap (λ n. n == write) (and_end 7 bits (of_leaf Read) write e low) ∙ clear) test))
+      (λ e. refl) prot stated is
+
+  pub read_by_bit : (bits : ℕ) (prot : Prot) → IsTrue (is_common prot) → bits % 2 ^ 7 ≡ of_leaf prot →
+      (bit_and bits write == write) ≡ false → Read ≡ prot
+  read_by_bit bits prot stated is test =
+      of_common (λ p. bits % 2 ^ 7 ≡ of_leaf p → Read ≡ p)
+      (λ e. refl)
+      (λ e. absurd (both_ways _ test (ap (λ n. n == write) (and_end 7 bits (of_leaf ReadWrite) write e low) ∙ set))) prot stated is

@@ -4,3 +4,4 @@ pub mod Laws
 pub mod Manual
 pub mod Ranges
 pub mod FourKib
+pub mod FourKibLaws

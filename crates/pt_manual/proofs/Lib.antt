@@ -1,5 +1,4 @@
+pub mod Cases
 pub mod WalkFacts
 pub mod VtdCases
 pub mod X86Cases
-pub mod FourKibWalks
-pub mod EntryTests

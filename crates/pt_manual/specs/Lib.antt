@@ -4,5 +4,3 @@ pub mod Granting
 pub mod NineBitWalk
 pub mod VtdWalk
 pub mod X86Walk
-pub mod OverPages
-pub mod NineBitFormat

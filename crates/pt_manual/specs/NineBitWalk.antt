@@ -8,35 +8,41 @@ use Rattle.pt_manual.specs.declared.walked.Walked.{Walked}
 use Rattle.pt_manual.specs.declared.walked.Walked.TheVariants.{None, Alien}
 use Rattle.pt_manual.specs.declared.walked.Walked.TheVariants as W
 
+-- how a manual numbers its tables, and its step: what it says of a word in a table of its number
+pub record Manual : Type 0 where
+  -- the number of a table of `level`, 0 being the lowest
+  pub number : (level : ℕ) → ℕ
+  pub step : (number word : ℕ) → Step
+
 -- a page as what is granted allows it
-abbrev pub page_as : (level out : ℕ) → Granted → Walked
-page_as level out denied = None
-page_as level out (granted prot) = W.Page out prot
-page_as level out reserved = Alien level
+abbrev pub page_as : (number out : ℕ) → Granted → Walked
+page_as number out denied = None
+page_as number out (granted prot) = W.Page out prot
+page_as number out reserved = Alien number
 
 -- where a step leads: `next` is the walk from a frame one level down. Permissions are ANDed.
-abbrev pub followed : List ℕ → ℕ → ℕ → (read write : Bool) → (ℕ → Bool → Bool → Walked) → Step → Walked
-followed words address level read write next NotPresent = None
-followed words address level read write next Reserved = Alien (level + 1)
-followed words address level read write next (Page page r w) =
-    page_as (level + 1) (page + address % 2 ^ (12 + 9 * level)) (allowed (read && r) (write && w))
-followed words address level read write next (Next table r w) =
+abbrev pub followed : List ℕ → (address number : ℕ) → (read write : Bool) → (ℕ → Bool → Bool → Walked) → Step → Walked
+followed words address number read write next NotPresent = None
+followed words address number read write next Reserved = Alien number
+followed words address number read write next (Page page log2 r w) =
+    page_as number (page + address % 2 ^ log2) (allowed (read && r) (write && w))
+followed words address number read write next (Next table r w) =
     if names_frame 12 words table
     then next (frame_named 12 table) (read && r) (write && w)
-    else Alien (level + 1)
+    else Alien number
 
--- the walk from a table that is `tables` levels high. `step` is what the manual says of a word in a
--- table of the manual's level, 1 being the lowest
-abbrev pub walk_from : (step : ℕ → ℕ → Step) → List ℕ → ℕ → (tables frame : ℕ) → (read write : Bool) → Walked
-walk_from step words address zero frame read write = Alien 0
-walk_from step words address (suc level) frame read write =
-    followed words address level read write (walk_from step words address level)
-    (step (level + 1) (entry 9 words frame (address / 2 ^ (12 + 9 * level) % 2 ^ 9)))
+-- the walk from a table that is `tables` levels high; below the lowest table there is none, so that a pointer in it is alien
+abbrev pub walk_from : Manual → List ℕ → (address tables frame : ℕ) → (read write : Bool) → Walked
+walk_from m words address zero frame read write = Alien (m.number 0)
+walk_from m words address (suc level) frame read write =
+    followed words address (m.number level) read write (walk_from m words address level)
+    (m.step (m.number level) (entry 9 words frame (address / 2 ^ (12 + 9 * level) % 2 ^ 9)))
 
--- the walk from the root, of input addresses of `input` bits
-abbrev pub walk_by : (step : ℕ → ℕ → Step) → List ℕ → (levels input address : ℕ) → Walked
-walk_by step words levels input address =
+-- the walk from the root, of input addresses of `input` bits. A root that names no frame, or another number of levels, is
+-- alien at the number `bad_root`
+abbrev pub walk_by : Manual → List ℕ → (levels input bad_root address : ℕ) → Walked
+walk_by m words levels input bad_root address =
     if not (nat_lt (root_frame words) (frames_in 9 (length words)) && (root_level words + 1 == levels))
-    then Alien levels
+    then Alien bad_root
     else (if nat_le (2 ^ input) address then None
-    else walk_from step words address levels (root_frame words) true true)
+    else walk_from m words address levels (root_frame words) true true)

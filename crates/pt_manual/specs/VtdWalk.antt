@@ -1,25 +1,44 @@
--- The walk of VT-d second-stage tables. Bit 0 is R, bit 1 is W, bit 7 is PS.
--- Source: Intel Virtualization Technology for Directed I/O, Architecture Specification: "Second-Stage Translation"
--- for the walk, section 9.8 "Second-Stage Paging Entries" for the entries. Bits that the profile leaves at 0 are reserved here.
-use Rattle.std.specs.Prelude.{ℕ, ◌+◌, ◌*◌, ◌%◌, ◌^◌, List, nat_le, ◌==◌, ◌&&◌, if◌then◌else◌}
-use Rattle.pt_manual.specs.EntryBits.{address_of, is_set, has_only, is_aligned_at}
-use Rattle.pt_manual.specs.NineBitWalk.{walk_by}
+-- The walk of VT-d second-stage tables.
+-- Source: Intel Virtualization Technology for Directed I/O, Architecture Specification (order number D51397), section
+-- "Second-Stage Translation" for the walk and section 9.8, "Second-Stage Paging Entries", for the entries: the tables of
+-- SS-PML5E, SS-PML4E, SS-PDPE, SS-PDE and SS-PTE. Bits that the profile leaves at 0 are reserved here.
+use Rattle.std.specs.Prelude.{ℕ, ◌+◌, ◌*◌, ◌^◌, List, nat_le, ◌==◌, ◌&&◌, ◌||◌, not, if◌then◌else◌}
+use Rattle.pt_manual.specs.EntryBits.{address_of, bits_of, has, has_only, is_aligned}
+use Rattle.pt_manual.specs.NineBitWalk.{Manual, walk_by}
 use Rattle.pt_manual.specs.declared.step.Step.{Step}
 use Rattle.pt_manual.specs.declared.step.Step.TheVariants.{NotPresent, Reserved, Page, Next}
 use Rattle.pt_manual.specs.declared.walked.Walked.{Walked}
 
--- the manual's step in a table of its `level`. An entry with neither R nor W is not present. A page of
--- 4 KiB and a pointer have R, W and an address alone; a page of 2 MiB or 1 GiB has PS besides
+-- read, write, and page size
+abbrev pub R : ℕ
+R = 2 ^ 0
+
+abbrev pub W : ℕ
+W = 2 ^ 1
+
+abbrev pub PS : ℕ
+PS = 2 ^ 7
+
+-- an entry of a table of the manual's `level`, by its address and its other bits: not present, a page of 4 KiB, a page of
+-- 2 MiB or 1 GiB, a pointer, or of no form
+abbrev pub entry_at : (level address bits : ℕ) → Step
+entry_at level address bits =
+    let log2 : ℕ = 3 + 9 * level in
+    let page : Step = Page address log2 (has R bits) (has W bits) in
+    let next : Step = Next address (has R bits) (has W bits) in
+    if not (has R bits || has W bits) then NotPresent else (
+    if has_only 0 (R + W) bits && level == 1 then page else (
+    if has_only PS (R + W) bits && (nat_le 2 level && (nat_le level 3 && is_aligned log2 address)) then page else (
+    if has_only 0 (R + W) bits && nat_le 2 level then next else Reserved)))
+
+-- the manual's step in a table of its `level`
 abbrev pub step_at : (level word : ℕ) → Step
-step_at level word =
-    let page : Step = Page (address_of word) (is_set 0 word) (is_set 1 word) in
-    let next : Step = Next (address_of word) (is_set 0 word) (is_set 1 word) in
-    if word % 2 ^ 2 == 0 then NotPresent else (
-    if level == 1 then (if has_only 0 word then page else Reserved) else (
-    if is_set 7 word
-    then (if nat_le level 3 && (has_only (2 ^ 7) word && is_aligned_at level word) then page else Reserved)
-    else (if has_only 0 word then next else Reserved)))
+step_at level word = entry_at level (address_of word) (bits_of word)
+
+-- the manual numbers the lowest table 1
+abbrev pub manual : Manual
+manual = record { number = λ level. level + 1; step = step_at }
 
 -- input addresses have 12 bits of offset and 9 for each level
 abbrev pub walk : List ℕ → (levels address : ℕ) → Walked
-walk words levels address = walk_by step_at words levels (12 + 9 * levels) address
+walk words levels address = walk_by manual words levels (12 + 9 * levels) levels address

@@ -1,31 +1,53 @@
--- The walk of x86-64 tables. Source: Intel 64 and IA-32 Architectures Software Developer's Manual, volume 3, chapter on
--- paging, "4-Level Paging and 5-Level Paging". Bits that the profile leaves at 0 are reserved here. Bit 0 is P, bit 1 is R/W, bit 2 is U/S, bit 5 is A, bit 6 is D, bit 7 is PS.
+-- The walk of x86-64 tables.
+-- Source: Intel 64 and IA-32 Architectures Software Developer's Manual, volume 3A (order number 253668), chapter "Paging",
+-- section "4-Level Paging and 5-Level Paging" with its tables of PML5E, PML4E, PDPTE, PDE and PTE. Bits that the profile
+-- leaves at 0 are reserved here.
 use Rattle.std.specs.Prelude.{ℕ, ◌+◌, ◌*◌, ◌^◌, List, nat_le, ◌==◌, ◌&&◌, not, true, if◌then◌else◌}
-use Rattle.pt_manual.specs.EntryBits.{address_of, is_set, has_only, is_aligned_at}
-use Rattle.pt_manual.specs.NineBitWalk.{walk_by}
+use Rattle.pt_manual.specs.EntryBits.{address_of, bits_of, has, has_only, is_aligned}
+use Rattle.pt_manual.specs.NineBitWalk.{Manual, walk_by}
 use Rattle.pt_manual.specs.declared.step.Step.{Step}
 use Rattle.pt_manual.specs.declared.step.Step.TheVariants.{NotPresent, Reserved, Page, Next}
 use Rattle.pt_manual.specs.declared.walked.Walked.{Walked}
 
--- U/S and A of a pointer; U/S, A and D of a page
-abbrev pub of_pointer : ℕ
-of_pointer = 2 ^ 2 + 2 ^ 5
+-- present, R/W (writes are permitted), U/S (user), accessed, dirty, and page size
+abbrev pub P : ℕ
+P = 2 ^ 0
 
-abbrev pub of_page : ℕ
-of_page = 2 ^ 2 + 2 ^ 5 + 2 ^ 6
+abbrev pub RW : ℕ
+RW = 2 ^ 1
 
--- the manual's step in a table of its `level`, 1 being that of PTEs. What is present may be read. A
--- pointer and a page of 4 KiB have the bits above, P, R/W and an address alone; a page of 2 MiB or 1 GiB has PS besides
+abbrev pub US : ℕ
+US = 2 ^ 2
+
+abbrev pub A : ℕ
+A = 2 ^ 5
+
+abbrev pub D : ℕ
+D = 2 ^ 6
+
+abbrev pub PS : ℕ
+PS = 2 ^ 7
+
+-- an entry of a table of the manual's `level`, by its address and its other bits: not present, a page of 4 KiB, a page of
+-- 2 MiB or 1 GiB, a pointer, or of no form. What is present may be read
+abbrev pub entry_at : (level address bits : ℕ) → Step
+entry_at level address bits =
+    let log2 : ℕ = 3 + 9 * level in
+    let page : Step = Page address log2 true (has RW bits) in
+    let next : Step = Next address true (has RW bits) in
+    if not (has P bits) then NotPresent else (
+    if has_only (P + US + A + D) RW bits && level == 1 then page else (
+    if has_only (P + US + A + D + PS) RW bits && (nat_le 2 level && (nat_le level 3 && is_aligned log2 address)) then page else (
+    if has_only (P + US + A) RW bits && nat_le 2 level then next else Reserved)))
+
+-- the manual's step in a table of its `level`, 1 being that of PTEs
 abbrev pub step_at : (level word : ℕ) → Step
-step_at level word =
-    let page : Step = Page (address_of word) true (is_set 1 word) in
-    let next : Step = Next (address_of word) true (is_set 1 word) in
-    if not (is_set 0 word) then NotPresent else (
-    if level == 1 then (if has_only of_page word then page else Reserved) else (
-    if is_set 7 word
-    then (if nat_le level 3 && (has_only (of_page + 2 ^ 7) word && is_aligned_at level word) then page else Reserved)
-    else (if has_only of_pointer word then next else Reserved)))
+step_at level word = entry_at level (address_of word) (bits_of word)
+
+-- here the lowest table is 1
+abbrev pub manual : Manual
+manual = record { number = λ level. level + 1; step = step_at }
 
 -- the lower half of canonical addresses: 12 bits of offset and 9 for each level, less the sign
 abbrev pub walk : List ℕ → (levels address : ℕ) → Walked
-walk words levels address = walk_by step_at words levels (11 + 9 * levels) address
+walk words levels address = walk_by manual words levels (11 + 9 * levels) levels address

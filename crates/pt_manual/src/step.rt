@@ -1,16 +1,18 @@
 //! What one entry says.
 
 ghost use Rattle.std.specs.Prelude.{◌≡◌, ℕ, ◌^◌, ◌<◌, ◌≤◌, Bool};
-ghost use Rattle.pt_manual.specs.declared.step.Step.{Step};
+ghost use Rattle.pt_manual.specs.NineBitWalk.{Manual};
 ghost use Rattle.pt_manual.specs.declared.step.Step.TheVariants.{Page};
 
-/// What an entry of a table says, by the manual. Addresses are output addresses, in bytes.
+/// What an entry of a table says, by the manual. Addresses are output addresses, in bytes; a page is of
+/// `2^log2` bytes.
 #[derive(Clone, Copy, Debug, PartialEq, Eq)]
 pub enum Step {
     NotPresent,
     Reserved,
     Page {
         address: u64,
+        log2: u32,
         read: bool,
         write: bool,
     },
@@ -23,12 +25,16 @@ pub enum Step {
 
 /// The entries of a manual.
 pub trait Entries {
-    ghost step_at: { ℕ → ℕ → Step };
+    ghost manual: { Manual };
 
-    /// What a word says in a table of the manual's `level`, 1 being the lowest.
+    /// The manual's number of a table of `level`, 0 being the lowest.
+    fn number_of(level: u32) -> u32
+        requires { level < 5 }
+        ensures { result ≡ manual.number level };
+
+    /// What a word says in a table of `level`, 0 being the lowest.
     fn read_entry(level: u32, word: u64) -> Step
-        requires low { 1 ≤ level }
-        requires high { level ≤ 5 }
-        ensures step { result ≡ step_at level word }
-        ensures in_output { (address : ℕ) (read write : Bool) → result ≡ Page address read write → address < 2 ^ 52 };
+        requires { level < 5 }
+        ensures step { result ≡ manual.step (manual.number level) word }
+        ensures in_output { (address log2 : ℕ) (read write : Bool) → result ≡ Page address log2 read write → (address < 2 ^ 52) × (log2 < 64) };
 }

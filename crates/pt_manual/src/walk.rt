@@ -29,17 +29,23 @@ fn page_for(level: u32, out: u64, read: bool, write: bool) -> Walked
     }
 }
 
-/// The walk of an input address of `input` bits.
-pub fn walk_by<E: Entries>(words: &[u64], levels: u32, input: u32, address: u64) -> Walked
+/// The walk of an input address of `input` bits. A bad root is alien at `bad_root`.
+pub fn walk_by<E: Entries>(
+    words: &[u64],
+    levels: u32,
+    input: u32,
+    bad_root: u32,
+    address: u64,
+) -> Walked
     requires space { IsSpaceLength 9 (length words.now) }
     requires low { 3 ≤ levels }
     requires high { levels ≤ 5 }
     requires bits { input ≤ 12 + 9 * levels }
-    ensures { result ≡ NineBitWalk.walk_by E.step_at words.now levels input address }
+    ensures { result ≡ NineBitWalk.walk_by E.manual words.now levels input bad_root address }
 {
     let mut frame = words[0] / 8;
     if frame >= frames_of(words) || words[0] % 8 + 1 != levels as u64 {
-        return Walked::Alien { level: levels };
+        return Walked::Alien { level: bad_root };
     }
     if address >> input != 0 {
         return Walked::None;
@@ -48,16 +54,21 @@ pub fn walk_by<E: Entries>(words: &[u64], levels: u32, input: u32, address: u64)
     let mut write = true;
     for level in (0..levels).rev() {
         let number = address >> (12 + 9 * level) & 511;
-        match E::read_entry(level + 1, entry_at(words, frame, number)) {
+        match E::read_entry(level, entry_at(words, frame, number)) {
             Step::NotPresent => return Walked::None,
-            Step::Reserved => return Walked::Alien { level: level + 1 },
+            Step::Reserved => {
+                return Walked::Alien {
+                    level: E::number_of(level),
+                };
+            }
             Step::Page {
                 address: page,
+                log2,
                 read: r,
                 write: w,
             } => {
-                let out = page + address % (1 << (12 + 9 * level));
-                return page_for(level + 1, out, read & r, write & w);
+                let out = page + address % (1 << log2);
+                return page_for(E::number_of(level), out, read & r, write & w);
             }
             Step::Next {
                 address: table,
@@ -65,7 +76,9 @@ pub fn walk_by<E: Entries>(words: &[u64], levels: u32, input: u32, address: u64)
                 write: w,
             } => {
                 let Some(next) = frame_at(words, table) else {
-                    return Walked::Alien { level: level + 1 };
+                    return Walked::Alien {
+                        level: E::number_of(level),
+                    };
                 };
                 frame = next;
                 read = read & r;
@@ -73,5 +86,7 @@ pub fn walk_by<E: Entries>(words: &[u64], levels: u32, input: u32, address: u64)
             }
         }
     }
-    Walked::Alien { level: 0 }
+    Walked::Alien {
+        level: E::number_of(0),
+    }
 }

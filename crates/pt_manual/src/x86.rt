@@ -2,32 +2,44 @@
 
 ghost use Rattle.std.specs.Prelude.{◌≡◌, ◌≤◌, length};
 ghost use Rattle.pt_manual.specs.SpaceWords.{IsSpaceLength};
-ghost use Rattle.pt_manual.specs.X86Walk.{walk, step_at};
+ghost use Rattle.pt_manual.specs.X86Walk.{manual, walk};
 
 use crate::Walked;
-use crate::bits::{address_in, has_bit, has_only, is_aligned_at};
+use crate::bits::{address_in, has, has_only, is_aligned};
 use crate::step::{Entries, Step};
 use crate::walk::walk_by;
 
-const USER: u64 = 1 << 2;
+const P: u64 = 1 << 0;
 
-const ACCESSED: u64 = 1 << 5;
+const RW: u64 = 1 << 1;
 
-const DIRTY: u64 = 1 << 6;
+const US: u64 = 1 << 2;
 
-const PAGE_SIZE: u64 = 1 << 7;
+const A: u64 = 1 << 5;
+
+const D: u64 = 1 << 6;
+
+const PS: u64 = 1 << 7;
 
 /// The entries of x86-64 tables.
 struct X86;
 
 impl Entries for X86 {
-    ghost step_at = { step_at };
+    ghost manual = { manual };
+
+    fn number_of(level: u32) -> u32 {
+        level + 1
+    }
 
     fn read_entry(level: u32, word: u64) -> Step {
+        let level = level + 1;
+        let log2 = 3 + 9 * level;
         let address = address_in(word);
-        let write = has_bit(word, 1);
+        let bits = word - address;
+        let write = has(RW, bits);
         let page = Step::Page {
             address,
+            log2,
             read: true,
             write,
         };
@@ -36,24 +48,15 @@ impl Entries for X86 {
             read: true,
             write,
         };
-        if !has_bit(word, 0) {
+        if !has(P, bits) {
             Step::NotPresent
-        } else if level == 1 {
-            if has_only(USER + ACCESSED + DIRTY, word) {
-                page
-            } else {
-                Step::Reserved
-            }
-        } else if has_bit(word, 7) {
-            if level <= 3
-                && has_only(USER + ACCESSED + DIRTY + PAGE_SIZE, word)
-                && is_aligned_at(level, word)
-            {
-                page
-            } else {
-                Step::Reserved
-            }
-        } else if has_only(USER + ACCESSED, word) {
+        } else if has_only(P + US + A + D, RW, bits) && level == 1 {
+            page
+        } else if has_only(P + US + A + D + PS, RW, bits)
+            && (2 <= level && (level <= 3 && is_aligned(log2, address)))
+        {
+            page
+        } else if has_only(P + US + A, RW, bits) && 2 <= level {
             next
         } else {
             Step::Reserved
@@ -73,5 +76,5 @@ pub fn walk_x86(words: &[u64], levels: u32, address: u64) -> Walked
     requires high { levels ≤ 5 }
     ensures { result ≡ walk words.now levels address }
 {
-    walk_by::<X86>(words, levels, 11 + 9 * levels, address)
+    walk_by::<X86>(words, levels, 11 + 9 * levels, levels, address)
 }

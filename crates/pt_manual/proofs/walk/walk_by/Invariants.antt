@@ -7,6 +7,6 @@ abbrev pub invariant-loop-level : goal.invariant-loop-level
 invariant-loop-level g l = record {
   a_frame : l.frame < frames_in 9 (length l.words);
   same_walk :
-      walk_from g.E.Entries.step_at l.words l.address l.level l.frame l.read l.write
-      ≡ walk_by g.E.Entries.step_at l.words l.levels l.input l.address;
+      walk_from g.E.Entries.manual l.words l.address l.level l.frame l.read l.write
+      ≡ walk_by g.E.Entries.manual l.words l.levels l.input l.bad_root l.address;
 }

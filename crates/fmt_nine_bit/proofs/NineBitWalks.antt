@@ -1,0 +1,136 @@
+-- A manual's step and walk over the words of tables of 512 entries over pages of 4 KiB.
+use Rattle.std.proofs.Common.{◌≡◌, ℕ, zero, suc, ◌+◌, ◌-◌, ◌*◌, ◌/◌, ◌%◌, ◌^◌, ◌<◌, ◌≤◌, refl, ap, sym, subst, ◌∙◌, arith, List, Some, None, Bool, true, false}
+use Rattle.std.specs.Prelude.{nat_le, nat_lt, ◌&&◌, ◌==◌, if◌then◌else◌}
+use Rattle.std.proofs.lemmas.Bool.{eq-eqb, and_from, le-leb, lt-ltb, lt-leb, ltb-true, ltb-false}
+use Rattle.std.proofs.lemmas.Nat.{pow-add}
+use Rattle.std.proofs.Math.Pow.{pow_mono}
+use native.Mathlib.Nat.{div-div-eq-div-mul, mod-eq_of_lt}
+use Rattle.pt_model.specs.declared.block.Prot.{Prot}
+use Rattle.pt_model.specs.declared.block.Prot.TheVariants.{Read, ReadWrite}
+use Rattle.pt_model.specs.Layout.{Layout, at_byte, may_read, may_write}
+use Rattle.pt_model.specs.Pages.{page_at}
+use Rattle.pt_model.specs.Words.{frames_in, root_frame, root_level, entry}
+use Rattle.pt_format.specs.Manual.{IsWalk, IsRooted, IsRead, an_empty, a_leaf, a_table, follow, entry_for}
+use Rattle.pt_format.specs.FourKib.{AreRead, layout, tables}
+use Rattle.pt_format.specs.FourKibLaws.{leaf_of_may}
+use Rattle.pt_manual.specs.SpaceWords.{names_frame}
+use Rattle.pt_manual.specs.declared.step.Step.TheVariants.{NotPresent, Next}
+use Rattle.pt_manual.specs.Granting.{allowed, granted}
+use Rattle.pt_manual.specs.NineBitWalk.{Manual, walk_by, walk_from, followed, page_as}
+use Rattle.fmt_nine_bit.specs.OverPages.{reached, found, found_page, step_by}
+use Rattle.fmt_nine_bit.specs.ManualEntries.{ReadsWritten, entries_by}
+
+-- what a leaf says is what is granted
+granted_is : (prot : Prot) → allowed (may_read prot) (may_write prot) ≡ granted prot
+granted_is Read = refl
+granted_is ReadWrite = refl
+
+picked : (b : Bool) (x here : ℕ) → (if b then Some x else None) ≡ Some here → (b ≡ true) × (x ≡ here)
+picked true x here e = (refl, (let w : x ≡ here = cc in w))
+picked false x here e = absurd (let w : ⊥ = cc in w)
+
+unpicked : (b : Bool) (x : ℕ) → (if b then Some x else None) ≡ None → b ≡ false
+unpicked true x e = absurd (let w : ⊥ = cc in w)
+unpicked false x e = refl
+
+-- the entry at which both look
+one_entry : (address level : ℕ) → address / 2 ^ (12 + 9 * level) % 2 ^ 9 ≡ address / 2 ^ 12 / 2 ^ (9 * level) % 2 ^ 9
+one_entry address level =
+    ap (λ n. n % 2 ^ 9) (ap (λ n. address / n) (pow-add 2 12 (9 * level)) ∙ sym (div-div-eq-div-mul address (2 ^ 12) (2 ^ (9 * level))))
+
+-- the byte at which both end
+bytes : (level out address : ℕ) → level < 3 →
+    out * 2 ^ 12 + address % 2 ^ (12 + 9 * level) ≡ (out + address / 2 ^ 12 % 2 ^ (9 * level)) * 2 ^ 12 + address % 2 ^ 12
+bytes zero out address low = omega arith
+bytes (suc zero) out address low = omega arith
+bytes (suc (suc zero)) out address low = omega arith
+bytes (suc (suc (suc more))) out address low = absurd (omega arith)
+
+named : (frame frames : ℕ) → frame < frames →
+    (nat_le (2 ^ 32) (2 ^ 32 + frame * 2 ^ 12) && (((2 ^ 32 + frame * 2 ^ 12 - 2 ^ 32) % 2 ^ 12 == 0) && nat_lt ((2 ^ 32 + frame * 2 ^ 12 - 2 ^ 32) / 2 ^ 12) frames)) ≡ true
+named frame frames low =
+    let is : (2 ^ 32 + frame * 2 ^ 12 - 2 ^ 32) / 2 ^ 12 ≡ frame = omega arith in
+    let whole : ((2 ^ 32 + frame * 2 ^ 12 - 2 ^ 32) % 2 ^ 12 == 0) ≡ true = eq-eqb _ _ (omega arith) in
+    let high : nat_le (2 ^ 32) (2 ^ 32 + frame * 2 ^ 12) ≡ true = le-leb _ _ (omega arith) in
+    rw (high, whole, is) (lt-ltb _ _ low)
+
+module _ (m : Manual) (states : Prot → Bool) (of_leaf : Prot → ℕ) (of_pointer : ℕ)
+    (reads : ReadsWritten m (entries_by m states of_leaf of_pointer)) where
+  pub are_read : AreRead (entries_by m states of_leaf of_pointer)
+  are_read = record {
+    empty = λ level here. ap (found here) (reads.empty level);
+    leaf_is = λ level word out here prot leaf.
+        let bits : 12 + 9 * level - 12 ≡ 9 * level = omega arith in
+        let out_is : out * 2 ^ 12 / 2 ^ 12 + here % 2 ^ (12 + 9 * level - 12) ≡ out + here % 2 ^ (9 * level) = rw bits (omega arith) in
+        ap (found here) (reads.leaf_is level word out prot leaf)
+        ∙ ap (λ n. found_page n (allowed (may_read prot) (may_write prot))) out_is
+        ∙ ap (found_page (out + here % 2 ^ (9 * level))) (granted_is prot);
+    pointer_is = λ level word address here pointer. ap (found here) (reads.pointer_is level word address pointer);
+  }
+
+  module _ (levels input bad_root : ℕ) (few : input ≤ 12 + 9 * levels) where
+    abbrev format : Layout
+    format = layout (tables (entries_by m states of_leaf of_pointer) levels input (λ words address. reached (walk_by m words levels input bad_root address)))
+
+    rooted : (words : List ℕ) → IsRooted format words → (nat_lt (root_frame words) (frames_in format words) && (root_level words + 1 == levels)) ≡ true
+    rooted words r =
+        let a = r.a_frame in let b = r.high in let c = r.low in
+        let is : root_level words + 1 ≡ levels = omega arith in
+        and_from (nat_lt (root_frame words) (frames_in format words)) (root_level words + 1 == levels) (lt-ltb _ _ a) (eq-eqb _ _ is)
+
+    -- what both make of one word
+    on_word : (words : List ℕ) (address here level e : ℕ) → here ≡ address / 2 ^ 12 → IsRead format (frames_in format words) level e →
+        reached (followed words address (m.number level) true true (walk_from m words address level) (m.step (m.number level) e))
+        ≡ follow format address (λ frame. reached (walk_from m words address level frame true true)) (step_by m level e here)
+    on_word words address here level e is (an_empty z) =
+        let none : m.step (m.number level) e ≡ NotPresent = ap (m.step (m.number level)) z ∙ reads.empty level in
+        rw none refl
+    on_word words address here level e is (a_leaf log2 prot l) =
+        let leaf = leaf_of_may e l.may l.word_is in
+        let said = reads.leaf_is level e l.out prot leaf in
+        let both : reached (page_as (m.number level) (l.out * 2 ^ 12 + address % 2 ^ (12 + 9 * level)) (allowed (may_read prot) (may_write prot)))
+        ≡ at_byte (l.out * 2 ^ 12 + address % 2 ^ (12 + 9 * level)) prot =
+        ap (λ g. reached (page_as (m.number level) (l.out * 2 ^ 12 + address % 2 ^ (12 + 9 * level)) g)) (granted_is prot) in
+        let stepped = are_read.leaf_is level e l.out here prot leaf in
+        ap (λ s. reached (followed words address (m.number level) true true (walk_from m words address level) s)) said
+        ∙ both ∙ ap (λ n. at_byte n prot) (bytes level l.out address leaf.low_level)
+        ∙ ap (λ h. at_byte ((l.out + h % 2 ^ (9 * level)) * 2 ^ 12 + address % 2 ^ 12) prot) (sym is)
+        ∙ ap (follow format address (λ frame. reached (walk_from m words address level frame true true))) (sym stepped)
+    on_word words address here level e is (a_table frame at low fa z) =
+        let next : m.step (m.number level) e ≡ Next (2 ^ 32 + frame * 2 ^ 12) true true =
+        reads.pointer_is level e (2 ^ 32 + frame * 2 ^ 12) (record { above = at.above; a_frame = fa; word_is = z }) in
+        let names : names_frame 12 words (2 ^ 32 + frame * 2 ^ 12) ≡ true = named frame _ low in
+        rw (next, names) refl
+
+    near : (address here : ℕ) → page_at format address ≡ Some here → (address < 2 ^ input) × (here ≡ address / 2 ^ 12)
+    near address here e =
+        let p = picked (nat_lt address (2 ^ input)) (address % 2 ^ input / 2 ^ 12) here e in
+        let low : address < 2 ^ input = ltb-true _ _ p.0 in
+        (low, sym p.1 ∙ ap (λ n. n / 2 ^ 12) (mod-eq_of_lt low))
+
+    pub is_walk : IsWalk format
+    is_walk = record {
+      from = λ words address tables frame. reached (walk_from m words address tables frame true true);
+      no_page = λ words address r small e.
+          let far : nat_lt address (2 ^ input) ≡ false = unpicked _ _ e in
+          let past : nat_le (2 ^ input) address ≡ true = le-leb _ _ (let f = ltb-false _ _ far in omega arith) in
+          rw (rooted words r, past) refl;
+      beyond = λ words address here r small e out. absurd
+          (let n = near address here e in
+          let is : root_level words + 1 ≡ levels = let a = r.high in let b = r.low in omega arith in
+          let wide : 2 ^ (12 + 9 * levels) ≡ 2 ^ 12 * 2 ^ (9 * levels) = pow-add 2 12 (9 * levels) in
+          let most : 2 ^ input ≤ 2 ^ (12 + 9 * levels) = pow_mono few in
+          let far : 2 ^ (9 * levels) ≤ here = subst (λ k. 2 ^ (9 * k) ≤ here) is out in
+          let close = n.0 in let at = n.1 in omega arith);
+      begins = λ words address here r small e below.
+          let n = near address here e in
+          let past : nat_le (2 ^ input) address ≡ false = lt-leb _ _ n.0 in
+          let is : root_level words + 1 ≡ levels = let a = r.high in let b = r.low in omega arith in
+          rw (rooted words r, past, is) refl;
+      goes = λ words address here level frame r small e below a_frame read.
+          let n = near address here e in
+          let same : entry format words frame (address / 2 ^ (12 + 9 * level) % 2 ^ 9) ≡ entry_for format words frame level here =
+          ap (λ k. entry format words frame k) (one_entry address level ∙ ap (λ k. k / 2 ^ (9 * level) % 2 ^ 9) (sym n.1)) in
+          ap (λ k. reached (followed words address (m.number level) true true (walk_from m words address level) (m.step (m.number level) k))) same
+          ∙ on_word words address here level (entry_for format words frame level here) n.1 read;
+    }

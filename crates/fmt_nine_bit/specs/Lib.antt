@@ -1,0 +1,2 @@
+pub mod OverPages
+pub mod ManualEntries
