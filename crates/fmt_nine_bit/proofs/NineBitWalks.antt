@@ -7,16 +7,15 @@ use Rattle.std.proofs.Math.Pow.{pow_mono}
 use native.Mathlib.Nat.{div-div-eq-div-mul, mod-eq_of_lt}
 use Rattle.pt_model.specs.declared.block.Prot.{Prot}
 use Rattle.pt_model.specs.declared.block.Prot.TheVariants.{Read, ReadWrite}
-use Rattle.pt_model.specs.Layout.{Layout, at_byte, may_read, may_write}
+use Rattle.pt_model.specs.Layout.{Layout, Found, nothing, page, table, alien, at_byte, Reached, may_read, may_write}
 use Rattle.pt_model.specs.Pages.{page_at}
 use Rattle.pt_model.specs.Words.{frames_in, root_frame, root_level, entry}
-use Rattle.pt_format.specs.Manual.{IsWalk, IsRooted, IsRead, an_empty, a_leaf, a_table, follow, entry_for}
+use Rattle.pt_format.specs.Manual.{IsWalk, IsRooted, IsRead, OnWay, Onward, an_empty, a_leaf, a_table, by_steps, follow, entry_for}
 use Rattle.pt_format.specs.FourKib.{AreRead, layout, tables}
 use Rattle.pt_format.specs.FourKibLaws.{leaf_of_may}
-use Rattle.pt_manual.specs.SpaceWords.{names_frame}
 use Rattle.pt_manual.specs.declared.step.Step.TheVariants.{NotPresent, Next}
 use Rattle.pt_manual.specs.Granting.{allowed, granted}
-use Rattle.pt_manual.specs.NineBitWalk.{Manual, walk_by, walk_from, followed, page_as}
+use Rattle.pt_manual.specs.NineBitWalk.{Manual, names_frame, walk_by, walk_from, followed, page_as}
 use Rattle.fmt_nine_bit.specs.OverPages.{reached, found, found_page, step_by}
 use Rattle.fmt_nine_bit.specs.ManualEntries.{ReadsWritten, entries_by}
 
@@ -45,6 +44,13 @@ bytes zero out address low = omega arith
 bytes (suc zero) out address low = omega arith
 bytes (suc (suc zero)) out address low = omega arith
 bytes (suc (suc (suc more))) out address low = absurd (omega arith)
+
+-- what holds on the way holds on it by what follows from it
+onward_all : (f : Layout) {P Q : ℕ → Type 0} → ((frame : ℕ) → P frame → Q frame) → (found : Found) → Onward f P found → Onward f Q found
+onward_all f all nothing on = tt
+onward_all f all (page out prot) on = tt
+onward_all f all (table t) on = all ((t - 2 ^ 32) / 2 ^ f.granule) on
+onward_all f all alien on = tt
 
 named : (frame frames : ℕ) → frame < frames →
     (nat_le (2 ^ 32) (2 ^ 32 + frame * 2 ^ 12) && (((2 ^ 32 + frame * 2 ^ 12 - 2 ^ 32) % 2 ^ 12 == 0) && nat_lt ((2 ^ 32 + frame * 2 ^ 12 - 2 ^ 32) / 2 ^ 12) frames)) ≡ true
@@ -78,14 +84,16 @@ module _ (m : Manual) (states : Prot → Bool) (of_leaf : Prot → ℕ) (of_poin
         let is : root_level words + 1 ≡ levels = omega arith in
         and_from (nat_lt (root_frame words) (frames_in format words)) (root_level words + 1 == levels) (lt-ltb _ _ a) (eq-eqb _ _ is)
 
-    -- what both make of one word
-    on_word : (words : List ℕ) (address here level e : ℕ) → here ≡ address / 2 ^ 12 → IsRead format (frames_in format words) level e →
+    -- what both make of one word, where they agree from the next frame on
+    on_word : (words : List ℕ) (address here level e : ℕ) (next : ℕ → Reached) → here ≡ address / 2 ^ 12 →
+        IsRead format (frames_in format words) level e →
+        Onward format (λ frame. reached (walk_from m words address level frame true true) ≡ next frame) (step_by m level e here) →
         reached (followed words address (m.number level) true true (walk_from m words address level) (m.step (m.number level) e))
-        ≡ follow format address (λ frame. reached (walk_from m words address level frame true true)) (step_by m level e here)
-    on_word words address here level e is (an_empty z) =
+        ≡ follow format address next (step_by m level e here)
+    on_word words address here level e next is (an_empty z) onward =
         let none : m.step (m.number level) e ≡ NotPresent = ap (m.step (m.number level)) z ∙ reads.empty level in
         rw none refl
-    on_word words address here level e is (a_leaf log2 prot l) =
+    on_word words address here level e next is (a_leaf log2 prot l) onward =
         let leaf = leaf_of_may e l.may l.word_is in
         let said = reads.leaf_is level e l.out prot leaf in
         let both : reached (page_as (m.number level) (l.out * 2 ^ 12 + address % 2 ^ (12 + 9 * level)) (allowed (may_read prot) (may_write prot)))
@@ -95,12 +103,28 @@ module _ (m : Manual) (states : Prot → Bool) (of_leaf : Prot → ℕ) (of_poin
         ap (λ s. reached (followed words address (m.number level) true true (walk_from m words address level) s)) said
         ∙ both ∙ ap (λ n. at_byte n prot) (bytes level l.out address leaf.low_level)
         ∙ ap (λ h. at_byte ((l.out + h % 2 ^ (9 * level)) * 2 ^ 12 + address % 2 ^ 12) prot) (sym is)
-        ∙ ap (follow format address (λ frame. reached (walk_from m words address level frame true true))) (sym stepped)
-    on_word words address here level e is (a_table frame at low fa z) =
-        let next : m.step (m.number level) e ≡ Next (2 ^ 32 + frame * 2 ^ 12) true true =
+        ∙ ap (follow format address next) (sym stepped)
+    on_word words address here level e next is (a_table frame at low fa z) onward =
+        let said : m.step (m.number level) e ≡ Next (2 ^ 32 + frame * 2 ^ 12) true true =
         reads.pointer_is level e (2 ^ 32 + frame * 2 ^ 12) (record { above = at.above; a_frame = fa; word_is = z }) in
+        let stepped : step_by m level e here ≡ table (2 ^ 32 + frame * 2 ^ 12) = ap (found here) said in
         let names : names_frame 12 words (2 ^ 32 + frame * 2 ^ 12) ≡ true = named frame _ low in
-        rw (next, names) refl
+        let rest : reached (walk_from m words address level ((2 ^ 32 + frame * 2 ^ 12 - 2 ^ 32) / 2 ^ 12) true true)
+        ≡ next ((2 ^ 32 + frame * 2 ^ 12 - 2 ^ 32) / 2 ^ 12) =
+        subst (Onward format (λ h. reached (walk_from m words address level h true true) ≡ next h)) stepped onward in
+        ap (λ s. reached (followed words address (m.number level) true true (walk_from m words address level) s)) said
+        ∙ rw names rest ∙ ap (follow format address next) (sym stepped)
+
+    -- the walk from a table is the walk by steps
+    walks_from : (words : List ℕ) (address here : ℕ) → here ≡ address / 2 ^ 12 → (tables frame : ℕ) → OnWay format words here tables frame →
+        reached (walk_from m words address tables frame true true) ≡ by_steps format words address here tables frame
+    walks_from words address here is zero frame way = refl
+    walks_from words address here is (suc level) frame way =
+        let same : entry format words frame (address / 2 ^ (12 + 9 * level) % 2 ^ 9) ≡ entry_for format words frame level here =
+        ap (λ k. entry format words frame k) (one_entry address level ∙ ap (λ k. k / 2 ^ (9 * level) % 2 ^ 9) (sym is)) in
+        ap (λ k. reached (followed words address (m.number level) true true (walk_from m words address level) (m.step (m.number level) k))) same
+        ∙ on_word words address here level (entry_for format words frame level here) (by_steps format words address here level) is way.0
+        (onward_all format (walks_from words address here is level) (step_by m level (entry_for format words frame level here) here) way.1)
 
     near : (address here : ℕ) → page_at format address ≡ Some here → (address < 2 ^ input) × (here ≡ address / 2 ^ 12)
     near address here e =
@@ -110,7 +134,6 @@ module _ (m : Manual) (states : Prot → Bool) (of_leaf : Prot → ℕ) (of_poin
 
     pub is_walk : IsWalk format
     is_walk = record {
-      from = λ words address tables frame. reached (walk_from m words address tables frame true true);
       no_page = λ words address r small e.
           let far : nat_lt address (2 ^ input) ≡ false = unpicked _ _ e in
           let past : nat_le (2 ^ input) address ≡ true = le-leb _ _ (let f = ltb-false _ _ far in omega arith) in
@@ -122,15 +145,13 @@ module _ (m : Manual) (states : Prot → Bool) (of_leaf : Prot → ℕ) (of_poin
           let most : 2 ^ input ≤ 2 ^ (12 + 9 * levels) = pow_mono few in
           let far : 2 ^ (9 * levels) ≤ here = subst (λ k. 2 ^ (9 * k) ≤ here) is out in
           let close = n.0 in let at = n.1 in omega arith);
-      begins = λ words address here r small e below.
-          let n = near address here e in
+      walks = λ words address here under way.
+          let r = under.rooted in
+          let n = near address here under.at_page in
           let past : nat_le (2 ^ input) address ≡ false = lt-leb _ _ n.0 in
           let is : root_level words + 1 ≡ levels = let a = r.high in let b = r.low in omega arith in
-          rw (rooted words r, past, is) refl;
-      goes = λ words address here level frame r small e below a_frame read.
-          let n = near address here e in
-          let same : entry format words frame (address / 2 ^ (12 + 9 * level) % 2 ^ 9) ≡ entry_for format words frame level here =
-          ap (λ k. entry format words frame k) (one_entry address level ∙ ap (λ k. k / 2 ^ (9 * level) % 2 ^ 9) (sym n.1)) in
-          ap (λ k. reached (followed words address (m.number level) true true (walk_from m words address level) (m.step (m.number level) k))) same
-          ∙ on_word words address here level (entry_for format words frame level here) n.1 read;
+          let begins : reached (walk_by m words levels input bad_root address) ≡ reached (walk_from m words address levels (root_frame words) true true) =
+          rw (rooted words r, past) refl in
+          begins ∙ ap (λ k. reached (walk_from m words address k (root_frame words) true true)) (sym is)
+          ∙ walks_from words address here n.1 (root_level words + 1) (root_frame words) way;
     }

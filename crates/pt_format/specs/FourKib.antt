@@ -51,6 +51,16 @@ pub record IsPointerOf (e : Entries) (level word address : ℕ) : Type 0 where
   pub a_frame : IsFrameAddress 12 address
   pub word_is : word ≡ pointer e address
 
+abbrev pub IsNoLeaf : Entries → (level word : ℕ) → Type 0
+IsNoLeaf e level word = (out : ℕ) (prot : Prot) → ¬ IsLeafOf e level word out prot
+
+abbrev pub IsNoPointer : Entries → (level word : ℕ) → Type 0
+IsNoPointer e level word = (address : ℕ) → ¬ IsPointerOf e level word address
+
+-- where bits are those of a leaf, this is its permission
+abbrev pub IsPermissionIn : Entries → (bits : ℕ) → Prot → Type 0
+IsPermissionIn e bits result = (prot : Prot) → IsTrue (e.states prot) → bits % 2 ^ 7 ≡ e.of_leaf prot → result ≡ prot
+
 -- the bits of a leaf are low, some, and tell its permission; those of a pointer are low
 pub record AreBits (e : Entries) : Type 0 where
   pub states_read : IsTrue (e.states Read)

@@ -1,5 +1,5 @@
 -- The manual's step and walk, over the words that a format writes.
-use Rattle.std.specs.Prelude.{◌≡◌, ℕ, suc, ◌+◌, ◌-◌, ◌*◌, ◌/◌, ◌%◌, ◌^◌, ◌<◌, ◌≤◌, List, Some, None}
+use Rattle.std.specs.Prelude.{◌≡◌, ℕ, zero, suc, ◌+◌, ◌-◌, ◌*◌, ◌/◌, ◌%◌, ◌^◌, ◌<◌, ◌≤◌, List, Some, None}
 use Rattle.pt_model.specs.declared.block.Prot.{Prot}
 use Rattle.pt_model.specs.Layout.{Layout, Found, nothing, page, table, alien, Reached, nowhere, at_byte, strange, pages_of_entry, pages_of_table, input_pages, output_pages}
 use Rattle.pt_model.specs.Pages.{page_at}
@@ -53,19 +53,39 @@ pub record IsRooted (f : Layout) (words : List ℕ) : Type 0 where
   pub high : f.start ≤ root_level words + 1
   pub low : root_level words < f.levels
 
--- the walk is its steps
+-- the walk to a page by the layout's own steps, from a table that is so many levels high
+abbrev pub by_steps : Layout → List ℕ → (address here tables frame : ℕ) → Reached
+by_steps f words address here zero frame = strange
+by_steps f words address here (suc level) frame =
+    follow f address (by_steps f words address here level) (f.step level (entry_for f words frame level here) here)
+
+-- this holds of the frame where the walk goes on, if it does
+abbrev pub Onward : Layout → (ℕ → Type 0) → Found → Type 0
+Onward f P nothing = Unit {0}
+Onward f P (page out prot) = Unit {0}
+Onward f P (table t) = P ((t - 2 ^ 32) / 2 ^ f.granule)
+Onward f P alien = Unit {0}
+
+-- every entry on the way is one that the format writes, or zero
+abbrev pub OnWay : Layout → List ℕ → (here tables frame : ℕ) → Type 0
+OnWay f words here zero frame = Unit {0}
+OnWay f words here (suc level) frame =
+    IsRead f (frames_in f words) level (entry_for f words frame level here)
+    × Onward f (OnWay f words here level) (f.step level (entry_for f words frame level here) here)
+
+-- an address has a page, which is under the root's table
+pub record IsUnderRoot (f : Layout) (words : List ℕ) (address here : ℕ) : Type 0 where
+  pub rooted : IsRooted f words
+  pub small : address < 2 ^ 64
+  pub at_page : page_at f address ≡ Some here
+  pub under_root : here < pages_of_table f (root_level words)
+
+-- the manual's walk is the walk by steps
 pub record IsWalk (f : Layout) : Type 0 where
-  -- the walk from a table that is so many levels high
-  pub from : List ℕ → (address tables frame : ℕ) → Reached
   pub no_page : (words : List ℕ) (address : ℕ) → IsRooted f words → address < 2 ^ 64 →
       page_at f address ≡ None → f.walk words address ≡ nowhere
   pub beyond : (words : List ℕ) (address here : ℕ) → IsRooted f words → address < 2 ^ 64 →
       page_at f address ≡ Some here → pages_of_table f (root_level words) ≤ here → f.walk words address ≡ nowhere
-  pub begins : (words : List ℕ) (address here : ℕ) → IsRooted f words → address < 2 ^ 64 →
-      page_at f address ≡ Some here → here < pages_of_table f (root_level words) →
-      f.walk words address ≡ from words address (root_level words + 1) (root_frame words)
-  pub goes : (words : List ℕ) (address here level frame : ℕ) → IsRooted f words → address < 2 ^ 64 →
-      page_at f address ≡ Some here → level < f.levels → frame < frames_in f words →
-      IsRead f (frames_in f words) level (entry_for f words frame level here) →
-      from words address (suc level) frame
-      ≡ follow f address (from words address level) (f.step level (entry_for f words frame level here) here)
+  pub walks : (words : List ℕ) (address here : ℕ) → IsUnderRoot f words address here →
+      OnWay f words here (root_level words + 1) (root_frame words) →
+      f.walk words address ≡ by_steps f words address here (root_level words + 1) (root_frame words)

@@ -3,7 +3,7 @@
 
 ghost use Rattle.std.specs.Prelude.{◌≡◌, ℕ, ◌+◌, ◌*◌, ◌/◌, ◌%◌, ◌^◌, ◌<◌, ◌≤◌, ◌==◌, MatchOption, IsTrue, bit_and};
 ghost use Rattle.pt_model.specs.declared.block.Prot.{Prot};
-ghost use Rattle.pt_format.specs.FourKib.{Entries, AreBits, AreRead, IsLeafOf, IsPointerOf, leaf, pointer, size_bit};
+ghost use Rattle.pt_format.specs.FourKib.{Entries, AreBits, AreRead, IsLeafOf, IsNoLeaf, IsNoPointer, IsPermissionIn, IsPointerOf, leaf, pointer, size_bit};
 
 use crate::frame_address::is_frame_address;
 use bitflags::Flags;
@@ -31,7 +31,7 @@ pub trait EntryBits: Flags<Bits = u64> {
     /// The permission that a leaf states.
     fn permission(&self) -> Prot
         ensures stated { IsTrue (entries.states result) }
-        ensures of_leaf { (prot : Prot) → IsTrue (entries.states prot) → Self.set_of self.now % 2 ^ 7 ≡ entries.of_leaf prot → result ≡ prot };
+        ensures of_leaf { IsPermissionIn entries (Self.set_of self.now) result };
 
     ghost is_exact: { Self.exact };
 
@@ -127,7 +127,7 @@ pub fn permission_in<E: EntryBits>(word: u64) -> Prot
 /// The output page and the permission of a leaf, where a word is one.
 pub fn read_leaf<E: EntryBits>(level: u32, word: u64) -> Option<(u64, Prot)>
     requires { level < 6 }
-    ensures { MatchOption result ((out : ℕ) (prot : Prot) → ¬ IsLeafOf E.entries level word out prot) (λ r. IsLeafOf E.entries level word r.0 r.1) }
+    ensures { MatchOption result (IsNoLeaf E.entries level word) (λ r. IsLeafOf E.entries level word r.0 r.1) }
 {
     let out = page_in(word);
     let prot = permission_in::<E>(word);
@@ -140,7 +140,7 @@ pub fn read_leaf<E: EntryBits>(level: u32, word: u64) -> Option<(u64, Prot)>
 
 /// The address of the table that a pointer names, where a word is one.
 pub fn read_pointer<E: EntryBits>(level: u32, word: u64) -> Option<u64>
-    ensures { MatchOption result ((address : ℕ) → ¬ IsPointerOf E.entries level word address) (λ address. IsPointerOf E.entries level word address) }
+    ensures { MatchOption result (IsNoPointer E.entries level word) (λ address. IsPointerOf E.entries level word address) }
 {
     let address = page_in(word) << 12;
     if level > 0 && is_frame_address(12, address) && word == table_word::<E>(address) {

@@ -1,10 +1,12 @@
 //! The trait of page table formats: what a format is as data, its words, and its laws.
 //!
-//! It stands on the definitions and on numbers. `FourKib` is the family of formats with tables of 512 entries
-//! over pages of 4 KiB: a format of it is the bits of its entries, its step and its levels. A format promises that its words read back, that no
+//! It stands on the definitions and on numbers. A format promises that its words read back, that no
 //! written word is zero, that each part of a block translates its own pages, and that its words mean to
 //! the manual's walk what they say. Everything above turns bytes into pages by the calls of this crate
 //! alone. No call takes memory.
+//!
+//! `FourKib` is the family of formats with tables of 512 entries over pages of 4 KiB: a format of it is
+//! the bits of its entries, its levels, and the manual's step and walk.
 #![tactic(auto)]
 
 mod entry_bits;

@@ -1,4 +1,3 @@
-pub mod SpaceWords
 pub mod EntryBits
 pub mod Granting
 pub mod NineBitWalk

@@ -3,8 +3,8 @@
 -- "Second-Stage Translation" for the walk and section 9.8, "Second-Stage Paging Entries", for the entries: the tables of
 -- SS-PML5E, SS-PML4E, SS-PDPE, SS-PDE and SS-PTE. Bits that the profile leaves at 0 are reserved here.
 use Rattle.std.specs.Prelude.{ℕ, ◌+◌, ◌*◌, ◌^◌, List, nat_le, ◌==◌, ◌&&◌, ◌||◌, not, if◌then◌else◌}
-use Rattle.pt_manual.specs.EntryBits.{address_of, bits_of, has, has_only, is_aligned}
-use Rattle.pt_manual.specs.NineBitWalk.{Manual, walk_by}
+use Rattle.pt_manual.specs.EntryBits.{has, has_only, is_aligned}
+use Rattle.pt_manual.specs.NineBitWalk.{Manual, by_bits, walk_by}
 use Rattle.pt_manual.specs.declared.step.Step.{Step}
 use Rattle.pt_manual.specs.declared.step.Step.TheVariants.{NotPresent, Reserved, Page, Next}
 use Rattle.pt_manual.specs.declared.walked.Walked.{Walked}
@@ -33,7 +33,7 @@ entry_at level address bits =
 
 -- the manual's step in a table of its `level`
 abbrev pub step_at : (level word : ℕ) → Step
-step_at level word = entry_at level (address_of word) (bits_of word)
+step_at = by_bits entry_at
 
 -- the manual numbers the lowest table 1
 abbrev pub manual : Manual

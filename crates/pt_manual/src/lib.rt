@@ -21,7 +21,6 @@ mod walk;
 mod walked;
 mod x86;
 
-pub use step::Step;
 pub use vtd::walk_vtdss;
 pub use walked::Walked;
 pub use x86::walk_x86;

@@ -1,8 +1,7 @@
 //! What one entry says.
 
-ghost use Rattle.std.specs.Prelude.{◌≡◌, ℕ, ◌^◌, ◌<◌, ◌≤◌, Bool};
-ghost use Rattle.pt_manual.specs.NineBitWalk.{Manual};
-ghost use Rattle.pt_manual.specs.declared.step.Step.TheVariants.{Page};
+ghost use Rattle.std.specs.Prelude.{◌≡◌, ◌<◌};
+ghost use Rattle.pt_manual.specs.NineBitWalk.{IsInOutput, Manual};
 
 /// What an entry of a table says, by the manual. Addresses are output addresses, in bytes; a page is of
 /// `2^log2` bytes.
@@ -36,5 +35,5 @@ pub trait Entries {
     fn read_entry(level: u32, word: u64) -> Step
         requires { level < 5 }
         ensures step { result ≡ manual.step (manual.number level) word }
-        ensures in_output { (address log2 : ℕ) (read write : Bool) → result ≡ Page address log2 read write → (address < 2 ^ 52) × (log2 < 64) };
+        ensures in_output { IsInOutput result };
 }

@@ -1,7 +1,7 @@
 //! The walk of VT-d second-stage tables.
 
 ghost use Rattle.std.specs.Prelude.{◌≡◌, ◌≤◌, length};
-ghost use Rattle.pt_manual.specs.SpaceWords.{IsSpaceLength};
+ghost use Rattle.pt_model.specs.Words.{IsSpaceLength};
 ghost use Rattle.pt_manual.specs.VtdWalk.{manual, walk};
 
 use crate::Walked;

@@ -1,7 +1,7 @@
 //! The walk of tables with nine index bits at each level.
 
 ghost use Rattle.std.specs.Prelude.{◌≡◌, ◌+◌, ◌*◌, ◌≤◌, length};
-ghost use Rattle.pt_manual.specs.SpaceWords.{IsSpaceLength};
+ghost use Rattle.pt_model.specs.Words.{IsSpaceLength};
 ghost use Rattle.pt_manual.specs.Granting.{allowed};
 ghost use Rattle.pt_manual.specs.NineBitWalk as NineBitWalk;
 ghost use Rattle.pt_manual.specs.NineBitWalk.{page_as};
@@ -53,14 +53,11 @@ pub fn walk_by<E: Entries>(
     let mut read = true;
     let mut write = true;
     for level in (0..levels).rev() {
-        let number = address >> (12 + 9 * level) & 511;
-        match E::read_entry(level, entry_at(words, frame, number)) {
+        let number = E::number_of(level);
+        let place = address >> (12 + 9 * level) & 511;
+        match E::read_entry(level, entry_at(words, frame, place)) {
             Step::NotPresent => return Walked::None,
-            Step::Reserved => {
-                return Walked::Alien {
-                    level: E::number_of(level),
-                };
-            }
+            Step::Reserved => return Walked::Alien { level: number },
             Step::Page {
                 address: page,
                 log2,
@@ -68,7 +65,7 @@ pub fn walk_by<E: Entries>(
                 write: w,
             } => {
                 let out = page + address % (1 << log2);
-                return page_for(E::number_of(level), out, read & r, write & w);
+                return page_for(number, out, read & r, write & w);
             }
             Step::Next {
                 address: table,
@@ -76,9 +73,7 @@ pub fn walk_by<E: Entries>(
                 write: w,
             } => {
                 let Some(next) = frame_at(words, table) else {
-                    return Walked::Alien {
-                        level: E::number_of(level),
-                    };
+                    return Walked::Alien { level: number };
                 };
                 frame = next;
                 read = read & r;
@@ -86,7 +81,6 @@ pub fn walk_by<E: Entries>(
             }
         }
     }
-    Walked::Alien {
-        level: E::number_of(0),
-    }
+    let lowest = E::number_of(0);
+    Walked::Alien { level: lowest }
 }

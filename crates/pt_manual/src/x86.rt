@@ -1,7 +1,7 @@
 //! The walk of x86-64 tables.
 
 ghost use Rattle.std.specs.Prelude.{◌≡◌, ◌≤◌, length};
-ghost use Rattle.pt_manual.specs.SpaceWords.{IsSpaceLength};
+ghost use Rattle.pt_model.specs.Words.{IsSpaceLength};
 ghost use Rattle.pt_manual.specs.X86Walk.{manual, walk};
 
 use crate::Walked;

@@ -8,12 +8,20 @@ use Rattle.pt_model.specs.declared.position.Position.{Position}
 abbrev pub word_count : Layout → (n : ℕ) → ℕ
 word_count f n = 1 + n + n * 2 ^ f.index
 
-abbrev pub frames_in : Layout → List ℕ → ℕ
-frames_in f words = (length words - 1) / (2 ^ f.index + 1)
+-- the frames of so many words, where tables have 2 ^ index entries: each frame has a tag besides
+abbrev pub frames_of : (index count : ℕ) → ℕ
+frames_of index count = (count - 1) / (2 ^ index + 1)
 
-pub record IsSpace (f : Layout) (words : List ℕ) : Type 0 where
-  pub whole : length words ≡ 1 + frames_in f words * (2 ^ f.index + 1)
-  pub some : 1 ≤ frames_in f words
+abbrev pub frames_in : Layout → List ℕ → ℕ
+frames_in f words = frames_of f.index (length words)
+
+-- so many words are a space with at least one frame
+pub record IsSpaceLength (index count : ℕ) : Type 0 where
+  pub whole : count ≡ 1 + frames_of index count * (2 ^ index + 1)
+  pub some : 1 ≤ frames_of index count
+
+abbrev pub IsSpace : Layout → List ℕ → Type 0
+IsSpace f words = IsSpaceLength f.index (length words)
 
 -- Word 0 is the root: a frame and its level.
 abbrev pub root_word : (frame level : ℕ) → ℕ
@@ -37,8 +45,14 @@ abbrev pub placed_at : ℕ → Position
 placed_at word = record { level = word / 4 % 8; base = word / 32 }
 
 -- The entries of frame f begin at word 1 + n + f * 2 ^ index.
+abbrev pub place_in : (index n frame number : ℕ) → ℕ
+place_in index n frame number = 1 + n + frame * 2 ^ index + number
+
 abbrev pub entry_place : Layout → (n frame number : ℕ) → ℕ
-entry_place f n frame number = 1 + n + frame * 2 ^ f.index + number
+entry_place f n frame number = place_in f.index n frame number
+
+abbrev pub entry_in : (index : ℕ) → List ℕ → (frame number : ℕ) → ℕ
+entry_in index words frame number = slice_index words (place_in index (frames_of index (length words)) frame number)
 
 abbrev pub entry_of : Layout → (n : ℕ) → List ℕ → (frame number : ℕ) → ℕ
 entry_of f n words frame number = slice_index words (entry_place f n frame number)
@@ -54,5 +68,8 @@ frame_limit f = 2 ^ (27 - f.granule)
 abbrev pub frame_address : Layout → ℕ → ℕ
 frame_address f frame = 2 ^ 32 + frame * 2 ^ f.granule
 
+abbrev pub frame_beginning : (granule address : ℕ) → ℕ
+frame_beginning granule address = (address - 2 ^ 32) / 2 ^ granule
+
 abbrev pub frame_named : Layout → (address : ℕ) → ℕ
-frame_named f address = (address - 2 ^ 32) / 2 ^ f.granule
+frame_named f address = frame_beginning f.granule address

@@ -10,13 +10,13 @@ use native.Mathlib.Decide.{ℕ_discrete}
 use lib.ListN.{get_elem?}
 use Rattle.pt_model.specs.declared.block.Prot.{Prot}
 use Rattle.pt_model.specs.declared.position.Position.{Position}
-use Rattle.pt_model.specs.Layout.{Layout, Found, nothing, page, table, nowhere, at_byte, strange, pages_of_entry, pages_of_table}
+use Rattle.pt_model.specs.Layout.{Layout, Found, Reached, nothing, page, table, nowhere, at_byte, strange, pages_of_entry, pages_of_table}
 use Rattle.pt_model.specs.Pages.{page_at}
 use Rattle.pt_model.specs.Tables.{child_at, parent_of, position_over, spine_position}
 use Rattle.pt_model.specs.Words.{entry_of, frames_in, frame_address, root_frame, root_level}
 use Rattle.pt_format.specs.Words.{IsUnder}
 use Rattle.pt_format.specs.Laws.{IsLayout}
-use Rattle.pt_format.specs.Manual.{IsRead, an_empty, a_leaf, a_table, IsRooted, IsWalk, StepsAgree, entry_for, follow}
+use Rattle.pt_format.specs.Manual.{IsRead, an_empty, a_leaf, a_table, IsRooted, IsWalk, OnWay, Onward, StepsAgree, by_steps, entry_for, follow}
 use Rattle.pt_view.specs.declared.view.View.{View}
 use Rattle.pt_view.specs.declared.view.Piece.{Piece}
 use Rattle.pt_view.specs.Pieces.{IsOneOf, first_of, table_of, number_of, level_of, word_of}
@@ -194,41 +194,45 @@ module _ (f : Layout) (good : IsLayout f) (agree : StepsAgree f) (walk : IsWalk 
     abbrev word : (level frame : ℕ) → ℕ
     word level frame = entry_of f n words frame (slot f here level)
 
+    -- the walk by steps goes from a table that is so many levels high to this answer, over written words alone
+    abbrev Goes : (tables frame : ℕ) → Reached → Type 0
+    Goes tables frame to = OnWay f words here tables frame × (by_steps f words address here tables frame ≡ to)
+
     -- one table
-    goes : (level frame : ℕ) (found : Found) → level < f.levels → frame < n → IsRead f n level (word level frame) → f.step level (word level frame) here ≡ found →
-        walk.from words address (suc level) frame ≡ follow f address (walk.from words address level) found
-    goes level frame found low within read step =
-        let frames = frames_are in
+    goes : (level frame : ℕ) (found : Found) → IsRead f n level (word level frame) → f.step level (word level frame) here ≡ found →
+        Onward f (OnWay f words here level) found → Goes (suc level) frame (follow f address (by_steps f words address here level) found)
+    goes level frame found read step onward =
         let read' : IsRead f (frames_in f words) level (entry_for f words frame level here) =
         subst (λ (k : ℕ). IsRead f k level (entry_of f k words frame (slot f here level))) (sym frames_are) read in
-        walk.goes words address here level frame rooted small at low (omega arith) read'
-        ∙ ap (λ (k : ℕ). follow f address (walk.from words address level) (f.step level (entry_of f k words frame (slot f here level)) here)) frames_are
-        ∙ ap (follow f address (walk.from words address level)) step
+        let step' : f.step level (entry_for f words frame level here) here ≡ found =
+        ap (λ (k : ℕ). f.step level (entry_of f k words frame (slot f here level)) here) frames_are ∙ step in
+        ((read', subst (Onward f (OnWay f words here level)) (sym step') onward), ap (follow f address (by_steps f words address here level)) step')
 
-    below_empty : (level frame : ℕ) → level < f.levels → frame < n → word level frame ≡ 0 → walk.from words address (suc level) frame ≡ nowhere
-    below_empty level frame low within zero_is =
-        goes level frame nothing low within (an_empty zero_is) (ap (λ (w : ℕ). f.step level w here) zero_is ∙ agree.empty level here low)
+    below_empty : (level frame : ℕ) → level < f.levels → word level frame ≡ 0 → Goes (suc level) frame nowhere
+    below_empty level frame low zero_is =
+        goes level frame nothing (an_empty zero_is) (ap (λ (w : ℕ). f.step level w here) zero_is ∙ agree.empty level here low) tt
 
-    below_piece : (level frame : ℕ) (u : View) (x : Piece) → IsOwnPiece f u x → level ≡ level_of f x → Has f x here → level < f.levels → frame < n → word level frame ≡ word_of f x →
-        walk.from words address (suc level) frame ≡ byte_of_piece f x address here
-    below_piece level frame u x own is has low within word_is =
+    below_piece : (level frame : ℕ) (u : View) (x : Piece) → IsOwnPiece f u x → level ≡ level_of f x → Has f x here → word level frame ≡ word_of f x →
+        Goes (suc level) frame (byte_of_piece f x address here)
+    below_piece level frame u x own is has word_is =
         let may = may_be_leaf f good u x own in
         let from = has.0 in let to = has.1 in
         let under : IsUnder f (level_of f x) x.block.log2 x.block.first x.part here = record { aligned = own.legal.first_aligned; from = omega arith; to = omega arith } in
         let step : f.step level (word level frame) here ≡ page (x.block.out + (here - x.block.first)) x.block.prot =
         ap (λ (w : ℕ). f.step level w here) word_is ∙ ap (λ (k : ℕ). f.step k (word_of f x) here) is
         ∙ agree.leaf (level_of f x) x.block.log2 x.block.out x.part x.block.first here x.block.prot may under in
-        goes level frame (page (x.block.out + (here - x.block.first)) x.block.prot) low within
-        (subst (λ (k : ℕ). IsRead f n k (word level frame)) (sym is) (a_leaf x.block.log2 x.block.prot (record { out = x.block.out; part = x.part; may = may; word_is = word_is }))) step
+        goes level frame (page (x.block.out + (here - x.block.first)) x.block.prot)
+        (subst (λ (k : ℕ). IsRead f n k (word level frame)) (sym is) (a_leaf x.block.log2 x.block.prot (record { out = x.block.out; part = x.part; may = may; word_is = word_is }))) step tt
 
-    below_table : (level frame h : ℕ) → level < f.levels → 0 < level → frame < n → h < n → word level frame ≡ f.pointer level (frame_address f h) →
-        walk.from words address (suc level) frame ≡ walk.from words address level h
-    below_table level frame h low high within inside word_is =
+    below_table : (level frame h : ℕ) (to : Reached) → level < f.levels → 0 < level → h < n → word level frame ≡ f.pointer level (frame_address f h) →
+        Goes level h to → Goes (suc level) frame to
+    below_table level frame h to low high inside word_is rest =
         let limit = r.sizes.limit in
         let address_is = is_address f h (omega arith) in
-        goes level frame (table (frame_address f h)) low within (a_table h (record { above = high; below = low }) inside address_is word_is)
+        let here_is = goes level frame (table (frame_address f h)) (a_table h (record { above = high; below = low }) inside address_is word_is)
         (ap (λ (w : ℕ). f.step level w here) word_is ∙ agree.pointer level (frame_address f h) here (record { above = high; below = low }) address_is)
-        ∙ ap (walk.from words address level) (frame_back f h)
+        (subst (OnWay f words here level) (sym (frame_back f h)) rest.0) in
+        (here_is.0, here_is.1 ∙ ap (by_steps f words address here level) (frame_back f h) ∙ rest.1)
 
     -- a piece at the entry over the page has the page
     entry_has : (level : ℕ) (one : IsOnePiece f views (over f here level) (slot f here level)) → Has f one.piece here
@@ -244,22 +248,20 @@ module _ (f : Layout) (good : IsLayout f) (agree : StepsAgree f) (walk : IsWalk 
     covered level one = let has = entry_has level one in record { index = one.index; view = one.view; at = one.at; piece = one.piece; own = one.member; from = has.0; to = has.1 }
 
     -- Where no piece has the page.
-    none_below : ¬ IsCovered f views here → (level frame : ℕ) → level < f.levels → IsLinkedAt n words views frame (over f here level) → walk.from words address (suc level) frame ≡ nowhere
+    none_below : ¬ IsCovered f views here → (level frame : ℕ) → level < f.levels → IsLinkedAt n words views frame (over f here level) → Goes (suc level) frame nowhere
     none_below bare zero frame low linked =
-        let within = linked.is_linked.within in
         elim (entry_is f n l words views good r frame (over f here 0) (slot f here 0) linked (slot_low f here 0)) [
-          | tree.an_empty zero_is none none_child ↦ below_empty 0 frame low within zero_is
+          | tree.an_empty zero_is none none_child ↦ below_empty 0 frame low zero_is
           | tree.a_piece one word_is ↦ absurd (bare (covered 0 one))
           | tree.a_child h child high word_is ↦ absurd (omega arith)
         ]
     none_below bare (suc level) frame low linked =
-        let within = linked.is_linked.within in
         elim (entry_is f n l words views good r frame (over f here (suc level)) (slot f here (suc level)) linked (slot_low f here (suc level))) [
-          | tree.an_empty zero_is none none_child ↦ below_empty (suc level) frame low within zero_is
+          | tree.an_empty zero_is none none_child ↦ below_empty (suc level) frame low zero_is
           | tree.a_piece one word_is ↦ absurd (bare (covered (suc level) one))
           | tree.a_child h child high word_is ↦
-              below_table (suc level) frame h low high within child.is_linked.within word_is
-              ∙ none_below bare level h (omega arith) (subst (IsLinkedAt n words views h) (child_over f here level) child)
+              below_table (suc level) frame h nowhere low high child.is_linked.within word_is
+              (none_below bare level h (omega arith) (subst (IsLinkedAt n words views h) (child_over f here level) child))
         ]
 
     -- Where a piece has the page: the tables over it, from its own up to the root's, are of the tree.
@@ -309,13 +311,12 @@ module _ (f : Layout) (good : IsLayout f) (agree : StepsAgree f) (walk : IsWalk 
           (subst (λ (w : View). IsOneOf w.pieces c.piece) (sym same) c.own) one.here here_one'
 
       -- the piece's own table
-      at_level : (frame : ℕ) → lx < f.levels → IsLinkedAt n words views frame (over f here lx) → walk.from words address (suc lx) frame ≡ byte_of_piece f c.piece address here
+      at_level : (frame : ℕ) → lx < f.levels → IsLinkedAt n words views frame (over f here lx) → Goes (suc lx) frame (byte_of_piece f c.piece address here)
       at_level frame low linked =
-          let within = linked.is_linked.within in
           elim (entry_is f n l words views good r frame (over f here lx) (slot f here lx) linked (slot_low f here lx)) [
             | tree.an_empty zero_is none none_child ↦ absurd (let some = some_here in omega arith)
             | tree.a_piece one word_is ↦
-                below_piece lx frame c.view c.piece home.own refl has low within (word_is ∙ ap (word_of f) (same_piece one))
+                below_piece lx frame c.view c.piece home.own refl has (word_is ∙ ap (word_of f) (same_piece one))
             | tree.a_child h child high word_is ↦
                 absurd (let apart = r.entries.apart (slot f here lx) (over f here lx)
                 (and_from (nat_lt 0 lx) _ (lt-ltb 0 lx high) (linked_there f n l words views good r h (child_at f (over f here lx) (slot f here lx)) child)) in
@@ -323,28 +324,30 @@ module _ (f : Layout) (good : IsLayout f) (agree : StepsAgree f) (walk : IsWalk 
           ]
 
       -- from a table above on down
-      found_below : (k frame : ℕ) → lx + k ≤ root_level words → IsLinkedAt n words views frame (over f here (lx + k)) → walk.from words address (suc (lx + k)) frame ≡ byte_of_piece f c.piece address here
+      found_below : (k frame : ℕ) → lx + k ≤ root_level words → IsLinkedAt n words views frame (over f here (lx + k)) →
+          Goes (suc (lx + k)) frame (byte_of_piece f c.piece address here)
       found_below zero frame low linked =
           let e : lx + 0 ≡ lx = omega arith in let top = rooted.low in
-          ap (λ (j : ℕ). walk.from words address (suc j) frame) e ∙ at_level frame (omega arith) (subst (λ (j : ℕ). IsLinkedAt n words views frame (over f here j)) e linked)
+          subst (λ (j : ℕ). Goes (suc j) frame (byte_of_piece f c.piece address here)) (sym e)
+          (at_level frame (omega arith) (subst (λ (j : ℕ). IsLinkedAt n words views frame (over f here j)) e linked))
       found_below (suc k) frame low linked =
-          let within = linked.is_linked.within in let top = rooted.low in
+          let top = rooted.low in
           let e : lx + suc k ≡ suc (lx + k) = omega arith in
           let linked' : IsLinkedAt n words views frame (over f here (suc (lx + k))) = subst (λ (j : ℕ). IsLinkedAt n words views frame (over f here j)) e linked in
           let there : IsThere f n l words views good r (child_at f (over f here (suc (lx + k))) (slot f here (suc (lx + k)))) =
           subst (IsThere f n l words views good r) (sym (child_over f here (lx + k))) (up k (omega arith)) in
           let child_is : has_child f l words views (over f here (suc (lx + k))) (slot f here (suc (lx + k))) ≡ true = and_from (nat_lt 0 (suc (lx + k))) _ (lt-ltb 0 (suc (lx + k)) (omega arith)) there in
-          ap (λ (j : ℕ). walk.from words address (suc j) frame) e
-          ∙ elim (entry_is f n l words views good r frame (over f here (suc (lx + k))) (slot f here (suc (lx + k))) linked' (slot_low f here (suc (lx + k)))) [
+          subst (λ (j : ℕ). Goes (suc j) frame (byte_of_piece f c.piece address here)) (sym e)
+          (elim (entry_is f n l words views good r frame (over f here (suc (lx + k))) (slot f here (suc (lx + k))) linked' (slot_low f here (suc (lx + k)))) [
             | tree.an_empty zero_is none none_child ↦ absurd (false≢true (sym none_child ∙ child_is))
             | tree.a_piece one word_is ↦
                 absurd (let apart = r.entries.apart (slot f here (suc (lx + k))) (over f here (suc (lx + k))) child_is in
                 let theirs = one.alone in
                 let most = total_at (has_piece f (over f here (suc (lx + k))) (slot f here (suc (lx + k)))) views one.index one.view one.at in omega arith)
             | tree.a_child h child high word_is ↦
-                below_table (suc (lx + k)) frame h (omega arith) high within child.is_linked.within word_is
-                ∙ found_below k h (omega arith) (subst (IsLinkedAt n words views h) (child_over f here (lx + k)) child)
-          ]
+                below_table (suc (lx + k)) frame h (byte_of_piece f c.piece address here) (omega arith) high child.is_linked.within word_is
+                (found_below k h (omega arith) (subst (IsLinkedAt n words views h) (child_over f here (lx + k)) child))
+          ])
 
       -- the root's table is over the page
       low_enough : lx ≤ root_level words
@@ -396,8 +399,9 @@ module _ (f : Layout) (good : IsLayout f) (agree : StepsAgree f) (walk : IsWalk 
         let none : here / pages_of_table f (root_level words) ≡ 0 = (let e : here ≡ 0 * t + here = omega arith in ap (λ (k : ℕ). k / t) e ∙ div-mul-add 0 t here low) in
         same_position (over f here (root_level words)) (spine_position (root_level words)) refl (ap (λ (k : ℕ). k * pages_of_table f (root_level words)) none ∙ (let z : 0 * t ≡ 0 = omega arith in z))
 
-    from_root : here < pages_of_table f (root_level words) → f.walk words address ≡ walk.from words address (suc (root_level words)) (root_frame words)
-    from_root low = walk.begins words address here rooted small at low ∙ (let e : root_level words + 1 ≡ suc (root_level words) = omega arith in ap (λ (k : ℕ). walk.from words address k (root_frame words)) e)
+    by_walk : (to : Reached) → here < pages_of_table f (root_level words) → Goes (root_level words + 1) (root_frame words) to → f.walk words address ≡ to
+    by_walk to low way =
+        walk.walks words address here (record { rooted = rooted; small = small; at_page = at; under_root = low }) way.0 ∙ way.1
 
     root_linked : here < pages_of_table f (root_level words) → IsLinkedAt n words views (root_frame words) (over f here (root_level words))
     root_linked low = subst (IsLinkedAt n words views (root_frame words)) (sym (root_over low)) r.root.is_linked
@@ -406,12 +410,17 @@ module _ (f : Layout) (good : IsLayout f) (agree : StepsAgree f) (walk : IsWalk 
     found c =
         let low = under_root c in let small_level = low_enough c in
         let e : lx c + (root_level words - lx c) ≡ root_level words = omega arith in
-        from_root low ∙ ap (λ (j : ℕ). walk.from words address (suc j) (root_frame words)) (sym e)
-        ∙ found_below c (root_level words - lx c) (root_frame words) (omega arith) (subst (λ (j : ℕ). IsLinkedAt n words views (root_frame words) (over f here j)) (sym e) (root_linked low))
+        let next : suc (lx c + (root_level words - lx c)) ≡ root_level words + 1 = omega arith in
+        by_walk (byte_of_piece f c.piece address here) low
+        (subst (λ (j : ℕ). Goes j (root_frame words) (byte_of_piece f c.piece address here)) next
+        (found_below c (root_level words - lx c) (root_frame words) (omega arith) (subst (λ (j : ℕ). IsLinkedAt n words views (root_frame words) (over f here j)) (sym e) (root_linked low))))
 
     none : ¬ IsCovered f views here → f.walk words address ≡ nowhere
     none bare = elim (cases_lt here (pages_of_table f (root_level words))) [
-      | inl low ↦ from_root low ∙ none_below bare (root_level words) (root_frame words) rooted.low (root_linked low)
+      | inl low ↦
+          (let next : suc (root_level words) ≡ root_level words + 1 = omega arith in
+          by_walk nowhere low (subst (λ (j : ℕ). Goes j (root_frame words) nowhere) next
+          (none_below bare (root_level words) (root_frame words) rooted.low (root_linked low))))
       | inr beyond ↦ walk.beyond words address here rooted small at beyond
     ]
 

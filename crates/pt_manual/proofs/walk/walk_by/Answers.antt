@@ -21,12 +21,12 @@ pub returns-in-NotPresent : goal.returns-in-NotPresent
 returns-in-NotPresent g c = rw c.in-NotPresent.is at (stepped g (goal.at.returns-in-NotPresent g c).After-read_entry)
 
 pub returns-in-Reserved : goal.returns-in-Reserved
-returns-in-Reserved g c = rw c.number_of.ensures (rw c.in-Reserved.is at (stepped g (goal.at.returns-in-Reserved g c).After-read_entry))
+returns-in-Reserved g c = rw c.number_of-number.ensures (rw c.in-Reserved.is at (stepped g (goal.at.returns-in-Reserved g c).After-read_entry))
 
 pub returns-in-Page : goal.returns-in-Page
 returns-in-Page g c =
     let small = (c.read_entry.ensures.in_output _ c.in-Page.log2 _ _ c.in-Page.is).1 in
-    c.page_for.ensures ∙ rw (c.number_of-in-Page.ensures, one_shl c.in-Page.log2 64 small) (rw c.in-Page.is at (stepped g (goal.at.returns-in-Page g c).After-read_entry))
+    c.page_for.ensures ∙ rw (c.number_of-number.ensures, one_shl c.in-Page.log2 64 small) (rw c.in-Page.is at (stepped g (goal.at.returns-in-Page g c).After-read_entry))
 
 pub overflow_add-out : goal.overflow_add-out
 overflow_add-out g c =
@@ -39,7 +39,7 @@ overflow_add-out g c =
 
 pub returns-in_default : goal.returns-in_default
 returns-in_default g c =
-    rw c.number_of-in_default.ensures (rw c.in_default.ensures at (rw c.in-Next.is at (stepped g (goal.at.returns-in_default g c).After-read_entry)))
+    rw c.number_of-number.ensures (rw c.in_default.ensures at (rw c.in-Next.is at (stepped g (goal.at.returns-in_default g c).After-read_entry)))
 
 pub loop-level-preserved : goal.loop-level-preserved
 loop-level-preserved g c = record {
