@@ -13,7 +13,7 @@ use Rattle.pt_model.specs.Tiling.{tiling}
 use Rattle.pt_model.specs.Book.{Book, add_blocks, mapped, table_lies_in}
 use Rattle.pt_model.specs.declared.block.Prot.{Prot}
 use Rattle.pt_model.specs.Sets.{IsAmong, IsSorted}
-use Rattle.pt_model.proofs.Positions.{before_order, before_trans, add_after, add_before, add_again, among_here, among_later, sorted_add, sorted_adds}
+use Rattle.pt_model.proofs.Positions.{before_order, before_trans, add_after, add_before, add_again, sorted_add, sorted_adds, among_here, among_more}
 use Rattle.pt_model.proofs.Tops.{power_mono, top_low, reaches_top}
 use Rattle.pt_tile.proofs.Counts.{adds_append}
 use Rattle.pt_format.specs.Laws.{IsLayout}
@@ -21,8 +21,8 @@ use Rattle.pt_book.proofs.ListFacts.{small_power}
 
 member_at : (xs : List Position) (i : ℕ) (d : Position) → i < length xs → IsAmong xs (get_or xs i d)
 member_at [] i d h = absurd (omega arith)
-member_at (x ∷ xs) zero d h = among_here x xs x refl
-member_at (x ∷ xs) (suc i) d h = among_later x xs (get_or xs i d) (member_at xs i d (omega arith))
+member_at (x ∷ xs) zero d h = among_here x xs
+member_at (x ∷ xs) (suc i) d h = among_more (get_or xs i d) x xs (member_at xs i d (omega arith))
 
 -- a position that is before all of a list is put first
 pub add_first : (xs : List Position) (p d : Position) → (0 < length xs → is_before p (get_or xs 0 d) ≡ true) →

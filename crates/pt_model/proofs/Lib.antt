@@ -1,7 +1,8 @@
 -- Addresses and their pages, and a range of bytes as a run of pages.
 pub mod Halves
 mod RangeBytes
--- The tiling of a range.
+-- Quotients of page numbers, and the tiling of a range.
+pub mod Quotients
 pub mod TilingFacts
 -- Positions of tables, their order, and the top that a tree needs.
 pub mod Positions
