@@ -28,10 +28,10 @@ lowest (x ∷ []) = Some x
 lowest (x ∷ y ∷ xs) = lowest (y ∷ xs)
 
 -- the path without its last node
-abbrev pub above : List Node → List Node
-above [] = []
-above (x ∷ []) = []
-above (x ∷ y ∷ xs) = x ∷ above (y ∷ xs)
+abbrev pub all_but_last : List Node → List Node
+all_but_last [] = []
+all_but_last (x ∷ []) = []
+all_but_last (x ∷ y ∷ xs) = x ∷ all_but_last (y ∷ xs)
 
 -- the pages under an entry of a table: the first one, and the one after the last
 abbrev pub entry_first : Layout → Position → (number : ℕ) → ℕ
@@ -125,7 +125,7 @@ pub record Went (f : Layout) (tells alone : Type 0) (number : ℕ) (v : View) (s
 
 -- the path loses its last node, and nothing else changes
 abbrev pub left : View → View
-left v = record v { path = above v.path }
+left v = record v { path = all_but_last v.path }
 
 -- the first frame of the purse is prepared for a position
 pub record IsPlaced (tells : Type 0) (v : View) (p : Position) (w : View) : Type 0 where

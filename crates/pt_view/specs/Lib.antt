@@ -2,3 +2,4 @@ pub mod Lists
 pub mod Pieces
 pub mod Views
 pub mod Calls
+pub mod Loads

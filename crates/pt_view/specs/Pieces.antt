@@ -1,8 +1,8 @@
 -- The words of blocks.
-use Rattle.std.specs.Prelude.{◌≡◌, ◌⊎◌, nat_le, if◌then◌else◌, ℕ, ◌+◌, ◌-◌, ◌*◌, ◌/◌, ◌%◌, ◌^◌, List, [], ◌∷◌, ◌++◌, map, fold}
+use Rattle.std.specs.Prelude.{IsTrue, ◌<◌, ◌≤◌, ◌≡◌, ◌⊎◌, nat_le, if◌then◌else◌, ℕ, ◌+◌, ◌-◌, ◌*◌, ◌/◌, ◌%◌, ◌^◌, List, [], ◌∷◌, ◌++◌, map, fold}
 use Rattle.std.specs.List.{range_with_len}
 use Rattle.pt_model.specs.declared.block.Block.{Block}
-use Rattle.pt_model.specs.Layout.{Layout, level_of_size, pages_of_entry}
+use Rattle.pt_model.specs.Layout.{Layout, IsLegalBlock, level_of_size, pages_of_entry}
 use Rattle.pt_model.specs.declared.position.Position.{Position}
 use Rattle.pt_model.specs.Tables.{position_over}
 use Rattle.pt_view.specs.declared.view.Piece.{Piece}
@@ -18,16 +18,34 @@ level_of f piece = level_of_size f piece.block.log2
 abbrev pub first_of : Layout → Piece → ℕ
 first_of f piece = piece.block.first + piece.part * pages_of_entry f (level_of f piece)
 
+-- the number of the entry over a page, in a table of a level
+abbrev pub entry_number : Layout → (level page : ℕ) → ℕ
+entry_number f level page = page / pages_of_entry f level % 2 ^ f.index
+
+-- the number of a table's entry in the table above it
+abbrev pub entry_number_of : Layout → Position → ℕ
+entry_number_of f p = entry_number f (p.level + 1) p.base
+
 -- the table in which a piece stands, and its entry there
 abbrev pub table_of : Layout → Piece → Position
 table_of f piece = position_over f (first_of f piece) (level_of f piece)
 
 abbrev pub number_of : Layout → Piece → ℕ
-number_of f piece = first_of f piece / pages_of_entry f (level_of f piece) % 2 ^ f.index
+number_of f piece = entry_number f (level_of f piece) (first_of f piece)
+
+-- a page is one of those under a piece
+abbrev pub IsUnderPiece : Layout → Piece → (page : ℕ) → Type 0
+IsUnderPiece f x page = (first_of f x ≤ page) × (page < first_of f x + pages_of_entry f (level_of f x))
 
 -- the word of a piece
 abbrev pub word_of : Layout → Piece → ℕ
 word_of f piece = f.leaf (level_of f piece) piece.block.log2 piece.block.out piece.block.prot piece.part
+
+-- a word of a legal block that the format can state
+pub record IsLegalPiece (f : Layout) (x : Piece) : Type 0 where
+  pub a_part : x.part < words_of f x.block
+  pub legal : IsLegalBlock f x.block
+  pub stated : IsTrue (f.states x.block.prot)
 
 abbrev pub pieces_of : Layout → Block → List Piece
 pieces_of f b = map (λ part. record { block = b; part = part }) (range_with_len 0 (words_of f b))

@@ -1,102 +1,39 @@
 -- The pieces of a book's blocks, and what the book says of a page by them.
-use Rattle.std.proofs.Common.{◌≡◌, ℕ, zero, suc, ◌+◌, ◌-◌, ◌*◌, ◌/◌, ◌%◌, ◌^◌, ◌<◌, ◌≤◌, List, [], ◌∷◌, ◌++◌, inl, inr, Bool, true, false, refl, ap, sym, ◌∙◌, subst, arith, ⊎_elim}
-use Rattle.std.specs.Prelude.{IsTrue, ◌⊎◌, ◌&&◌, ◌==◌, nat_lt, map, length, slice_index_or, All, AllPairs, Contains, find, Option, Some, None, option_map}
+use Rattle.std.proofs.Common.{◌≡◌, ℕ, zero, suc, ◌+◌, ◌-◌, ◌*◌, ◌/◌, ◌^◌, ◌<◌, ◌≤◌, List, [], ◌∷◌, ◌++◌, inl, inr, Bool, true, false, refl, ap, sym, subst, arith, ⊎_elim}
+use Rattle.std.specs.Prelude.{IsTrue, ◌⊎◌, ◌&&◌, nat_lt, map, length, slice_index_or, All, AllPairs, Contains, find, Option, Some, None, option_map}
 use Rattle.std.specs.List.{range_with_len, AllByRecursion}
-use Rattle.std.proofs.lemmas.Bool.{and_parts, and_from, eq-eqb, lt-ltb, ltb-true, cases_Bool}
+use Rattle.std.proofs.lemmas.Bool.{and_parts, and_from, lt-ltb, ltb-true, cases_Bool}
 use Rattle.std.proofs.lemmas.List.Elements.{All-contains, recursion_from_All}
-use Rattle.std.proofs.lemmas.Nat.{shr_split, shr-shr, shr_below, pow_pos, pow-add, mul-le, mod_below}
-use mathlib.Core.Logic.{dite}
-use native.Mathlib.Decide.{ℕ_discrete}
+use Rattle.std.proofs.lemmas.Nat.{shr_split, shr_below, pow_pos, mod_below}
 use Rattle.pt_model.specs.declared.position.Position.{Position}
 use Rattle.pt_model.specs.declared.block.Block.{Block}
 use Rattle.pt_model.specs.declared.block.Prot.{Prot}
-use Rattle.pt_model.specs.Layout.{Layout, IsLegalBlock, end_of, level_of_size, pages_of_entry, pages_of_table}
-use Rattle.pt_model.specs.Tables.{is_same, is_spine, least_top, needed, position_over}
+use Rattle.pt_model.specs.Layout.{Layout, IsLegalBlock, end_of, level_of_size, pages_of_table}
+use Rattle.pt_model.specs.Tables.{is_spine, least_top, needed, position_over}
 use Rattle.pt_model.specs.Book.{IsLawful, meets, value_at}
 use Rattle.pt_format.specs.Laws.{IsLayout}
 use Rattle.pt_format.specs.Words.{MayBeLeaf, IsUnder}
 use Rattle.pt_view.specs.declared.view.View.{View}
 use Rattle.pt_view.specs.declared.view.Piece.{Piece}
-use Rattle.pt_model.specs.Sets.{IsAmong, one_if, places}
-use Rattle.pt_view.specs.Pieces.{IsOneOf, all_pieces, first_of, level_of, pieces_of, table_of, words_of}
+use Rattle.pt_model.specs.Sets.{IsAmong}
+use Rattle.pt_view.specs.Pieces.{IsOneOf, all_pieces, level_of, pieces_of, table_of, words_of, IsUnderPiece}
 use Rattle.pt_view.specs.Views.{IsAtRest, book_of}
-use Rattle.pt_walk.specs.Walks.{HasNowhere, IsFound, IsOwn, IsUnderPiece, OwnsAll}
+use Rattle.pt_walk.specs.Walks.{HasNowhere, IsFound, IsOwn, OwnsAll}
 use Rattle.pt_walk.specs.Ways.{IsBlockOf}
-use Rattle.pt_walk.proofs.Quotients.{multiple_under, same_position}
-use Rattle.pt_walk.proofs.OverPage.{ends_in_block, size_split}
-
--- Lists.
-
-pub among_here : (p : Position) (ps : List Position) → IsAmong (p ∷ ps) p
-among_here p ps =
-    let b : is_same p p ≡ true = and_from (p.level == p.level) _ (eq-eqb p.level p.level refl) (eq-eqb p.base p.base refl) in
-    let e : one_if (is_same p p) + places p ps ≡ 1 + places p ps = ap (λ (t : Bool). one_if t + places p ps) b in omega arith
+use Rattle.pt_model.proofs.Quotients.{size_split}
+use Rattle.pt_model.proofs.Positions.{among_first, among_more}
+use Rattle.pt_view.proofs.Members.{in_blocks, mapped_one, one_of_left, one_of_right, piece_at}
+use Rattle.pt_view.proofs.Pieces.{is_under_piece, may_be_leaf, page_in_block, table_of_block}
+use Rattle.pt_walk.proofs.Descent.{own_piece}
 
 contains_among : (ps : List Position) (p : Position) (k : ℕ) → k < length ps → slice_index_or ps k p ≡ p → IsAmong ps p
 contains_among [] p k less e = absurd (omega arith)
-contains_among (q ∷ ps) p zero less e = subst (λ (x : Position). IsAmong (x ∷ ps) p) (sym e) (among_here p ps)
-contains_among (q ∷ ps) p (suc k) less e = let rest : 0 < places p ps = contains_among ps p k (omega arith) e in omega arith
-
-pub one_of_either : (xs ys : List Piece) (x : Piece) → IsOneOf (xs ++ ys) x → IsOneOf xs x ⊎ IsOneOf ys x
-one_of_either [] ys x h = inr h
-one_of_either (y ∷ xs) ys x (inl e) = inl (inl e)
-one_of_either (y ∷ xs) ys x (inr h) = ⊎_elim (λ a. inl (inr a)) (λ b. inr b) (one_of_either xs ys x h)
-
-pub one_of_left : (xs ys : List Piece) (x : Piece) → IsOneOf xs x → IsOneOf (xs ++ ys) x
-one_of_left [] ys x h = absurd h
-one_of_left (y ∷ xs) ys x (inl e) = inl e
-one_of_left (y ∷ xs) ys x (inr h) = inr (one_of_left xs ys x h)
-
-pub one_of_right : (xs ys : List Piece) (x : Piece) → IsOneOf ys x → IsOneOf (xs ++ ys) x
-one_of_right [] ys x h = h
-one_of_right (y ∷ xs) ys x h = inr (one_of_right xs ys x h)
-
-abbrev pub piece_at : Block → ℕ → Piece
-piece_at b part = record { block = b; part = part }
-
--- a piece of a run of parts has its block and one of them
-pub part_of : (b : Block) (n low : ℕ) (x : Piece) → IsOneOf (map (piece_at b) (range_with_len low n)) x → (k : ℕ) × (k < low + n) × (piece_at b k ≡ x)
-part_of b zero low x h = absurd h
-part_of b (suc n) low x (inl e) = (low, omega arith, e)
-part_of b (suc n) low x (inr h) = let r : (k : ℕ) × (k < low + 1 + n) × (piece_at b k ≡ x) = part_of b n (low + 1) x h in (r.0, (let s = r.1 in omega arith), r.2)
-
-pub is_part : (b : Block) (n low k : ℕ) → low ≤ k → k < low + n → IsOneOf (map (piece_at b) (range_with_len low n)) (piece_at b k)
-is_part b zero low k from to = absurd (omega arith)
-is_part b (suc n) low k from to = elim (cases_eq low k) [
-  | inl e ↦ inl (ap (piece_at b) e)
-  | inr ne ↦ inr (is_part b n (low + 1) k (omega arith) (omega arith))
-]
-  where
-    cases_eq : (a c : ℕ) → (a ≡ c) ⊎ (¬ (a ≡ c))
-    cases_eq a c = dite (ℕ_discrete a c) (λ e. inl e) (λ ne. inr ne)
-
--- a piece of a book's is one of a block of it
-pub in_blocks : (f : Layout) (bs : List Block) (x : Piece) → IsOneOf (all_pieces f bs) x → Contains bs x.block × (x.part < words_of f x.block)
-in_blocks f [] x h = absurd h
-in_blocks f (b ∷ bs) x h = ⊎_elim
-    (λ (a : IsOneOf (pieces_of f b) x). let r : (k : ℕ) × (k < 0 + words_of f b) × (piece_at b k ≡ x) = part_of b (words_of f b) 0 x a in
-    ((0, omega arith, ap (λ (y : Piece). y.block) r.2), subst (λ (y : Piece). y.part < words_of f y.block) r.2 (let s = r.1 in omega arith)))
-    (λ (a : IsOneOf (all_pieces f bs) x). let r = in_blocks f bs x a in ((suc r.0.0, (let s = r.0.1 in omega arith), r.0.2), r.1))
-    (one_of_either (pieces_of f b) (all_pieces f bs) x h)
+contains_among (q ∷ ps) p zero less e = among_first p q ps (sym e)
+contains_among (q ∷ ps) p (suc k) less e = among_more p q ps (contains_among ps p k (omega arith) e)
 
 head_of : (P : Position → Type 0) (at : ℕ → Position) (n low : ℕ) (more : List Position) → 0 < n → AllByRecursion P (map at (range_with_len low n) ++ more) → P (at low)
 head_of P at zero low more some h = absurd (omega arith)
 head_of P at (suc n) low more some h = h.0
-
--- The table of a piece is the one that its block needs.
-module _ (f : Layout) (good : IsLayout f) where
-  size_below : (log2 : ℕ) → log2 ≤ f.index * (level_of_size f log2 + 1)
-  size_below log2 =
-      let some : 0 < f.index = omega (arith, good.index_is, good.granule_low) in
-      let m = mod_below log2 f.index some in
-      let s : log2 / f.index * f.index + log2 % f.index ≡ log2 = omega arith in
-      let c : f.index * (log2 / f.index + 1) ≡ log2 / f.index * f.index + f.index = omega arith in omega arith
-
-  same_chunk : (b n k j : ℕ) → k ≤ j → b % 2 ^ k ≡ 0 → b ≤ n → n < b + 2 ^ k → n / 2 ^ j ≡ b / 2 ^ j
-  same_chunk b n k j small aligned low high =
-      let bits : k + (j - k) ≡ j = omega arith in
-      let over : (m : ℕ) → m / 2 ^ k / 2 ^ (j - k) ≡ m / 2 ^ j = λ m. shr-shr m k (j - k) ∙ ap (λ y. m / 2 ^ y) bits in
-      sym (over n) ∙ ap (λ y. y / 2 ^ (j - k)) (sym (multiple_under n k b aligned low high)) ∙ over b
 
 -- What a view at rest knows of its pieces, by its book.
 pub owns_all : (f : Layout) → IsLayout f → (v : View) (blocks : List Block) → f.start ≤ v.levels → IsAtRest f v blocks → IsLawful f v.levels (book_of v blocks) → OwnsAll f v
@@ -113,9 +50,7 @@ owns_all f good v blocks levels rest lawful = λ x member.
     let top : ℕ = least_top f v.levels (end_of x.block) in
     let reaches : level_of f x ≤ top = omega arith in
     let there : IsThere (position_over f x.block.first (level_of f x)) = head_of IsThere (position_over f x.block.first) (top + 1 - level_of f x) (level_of f x) _ (omega arith) (recursion_from_All IsThere (needed f v.levels x.block) all) in
-    let chunk : first_of f x / pages_of_table f (level_of f x) ≡ x.block.first / pages_of_table f (level_of f x) =
-    same_chunk f good x.block.first (first_of f x) x.block.log2 (f.index * (level_of f x + 1)) (size_below f good x.block.log2) legal.first_aligned (omega arith) (in_its_block f good x i.1) in
-    let table : position_over f x.block.first (level_of f x) ≡ table_of f x = same_position (position_over f x.block.first (level_of f x)) (table_of f x) refl (ap (λ y. y * pages_of_table f (level_of f x)) (sym chunk)) in
+    let table : position_over f x.block.first (level_of f x) ≡ table_of f x = sym (table_of_block good (record { a_part = i.1; legal = legal; stated = stated })) in
     record {
       a_part = i.1;
       legal = legal;
@@ -125,14 +60,6 @@ owns_all f good v blocks levels rest lawful = λ x member.
       in_table = ⊎_elim (λ (a : Contains v.tables (position_over f x.block.first (level_of f x))). inl (subst (IsAmong v.tables) table (contains_among v.tables _ a.0 a.1 a.2)))
           (λ s. inr (subst (λ (p : Position). IsTrue (is_spine v.levels p)) table s.0)) there;
     }
-  where
-    in_its_block : (f : Layout) → IsLayout f → (x : Piece) → x.part < words_of f x.block → first_of f x < x.block.first + 2 ^ x.block.log2
-    in_its_block f good x a =
-        let e : ℕ = pages_of_entry f (level_of f x) in
-        let some : 0 < e = pow_pos (f.index * level_of f x) in
-        let s = size_split f.index x.block.log2 (omega (arith, good.index_is, good.granule_low)) in
-        let pages : 2 ^ x.block.log2 ≡ words_of f x.block * e = ap (λ k. 2 ^ k) s ∙ pow-add 2 (x.block.log2 - f.index * level_of f x) (f.index * level_of f x) in
-        let h = mul-le (x.part + 1) e (words_of f x.block) e (omega arith) (omega arith) in omega (arith, h, pages)
 
 -- What a book says of a page.
 
@@ -165,7 +92,7 @@ piece_over f good b page low high =
     let small : part < words_of f b = shr_below (page - b.first) (b.log2 - bits) bits within in
     let split = shr_split (page - b.first) bits in
     let rest = mod_below (page - b.first) (2 ^ bits) (pow_pos bits) in
-    (piece_at b part, is_part b (words_of f b) 0 part (omega arith) (omega arith), (omega arith, omega arith))
+    (piece_at b part, mapped_one (piece_at b) (words_of f b) 0 part (omega arith) (omega arith), (omega arith, omega arith))
 
 find_nowhere : (f : Layout) → IsLayout f → (page : ℕ) (bs : List Block) → ((x : Piece) → IsOneOf (all_pieces f bs) x → IsUnderPiece f x page → ⊥) → find (meets page (page + 1)) bs ≡ None
 find_nowhere f good page [] none = refl
@@ -193,8 +120,8 @@ module _ (f : Layout) (good : IsLayout f) (v : View) (blocks : List Block) (rest
       let x : Piece = h.piece in
       let own : IsOwn f v x = owns_all f good v blocks levels rest lawful x h.own in
       let i = in_blocks f blocks x (subst (λ (xs : List Piece). IsOneOf xs x) rest.pieces h.own) in
-      let low = h.has_page.0 in let high = h.has_page.1 in
-      let ends = ends_in_block f good v x own in
+      let low = h.has_page.0 in
+      let ends = page_in_block good (own_piece own) h.has_page in
       ap (value_of page) (find_here page blocks x.block i.0.0 lawful.in_order i.0.1 i.0.2 (omega arith) (omega arith))
 
 -- The word that was found is a leaf that has the page.
@@ -212,21 +139,9 @@ block_found f good v page level word owns h =
     let own : IsOwn f v x = owns x h.own in
     let at : IsBlockOf f (level_of f x) word page x.block = record {
       part = x.part;
-      may = record {
-        below = let a = good.sizes_low x.block.log2 own.legal.a_size in let b = good.start_high in omega (arith, a, b);
-        a_size = own.legal.a_size;
-        at_level = refl;
-        aligned = own.legal.out_aligned;
-        within = own.legal.in_output;
-        stated = own.stated;
-        a_part = own.a_part;
-      };
+      may = may_be_leaf good (own_piece own);
       word_is = h.word_is;
-      under = record {
-        aligned = own.legal.first_aligned;
-        from = h.has_page.0;
-        to = let high = h.has_page.1 in omega arith;
-      };
+      under = is_under_piece good (own_piece own) h.has_page;
     } in
     subst (λ (k : ℕ). IsBlockOf f k word page x.block) (sym h.level_is) at
 

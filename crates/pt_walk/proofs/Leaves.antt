@@ -9,8 +9,7 @@ use Rattle.pt_model.specs.Layout.{Layout, output_pages, pages_of_entry}
 use Rattle.pt_format.specs.Laws.{IsLayout, WordsDiffer}
 use Rattle.pt_format.specs.Words.{IsLeaf}
 use Rattle.pt_walk.specs.Ways.{IsBlockOf}
-use Rattle.pt_walk.proofs.Quotients.{multiple_under, whole}
-use Rattle.pt_walk.proofs.OverPage.{size_split}
+use Rattle.pt_model.proofs.Quotients.{multiple_under, size_split, whole}
 
 module _ (f : Layout) (good : IsLayout f) (differ : WordsDiffer f) (level word page : ℕ) (b : Block) (is : IsBlockOf f level word page b) where
   -- the last page of a part is one of the block's

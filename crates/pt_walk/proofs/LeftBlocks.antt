@@ -10,12 +10,13 @@ use Rattle.pt_model.specs.Book.{IsLawful, meets}
 use Rattle.pt_format.specs.Laws.{IsLayout}
 use Rattle.pt_view.specs.declared.view.View.{View}
 use Rattle.pt_view.specs.declared.view.Piece.{Piece}
-use Rattle.pt_view.specs.Pieces.{IsOneOf, all_pieces, pieces_of}
+use Rattle.pt_view.specs.Pieces.{IsOneOf, all_pieces, pieces_of, IsUnderPiece}
+use Rattle.pt_view.proofs.Members.{one_of_left, one_of_right}
 use Rattle.pt_view.specs.Views.{IsAtRest, book_of}
-use Rattle.pt_walk.specs.Walks.{IsFree, IsUnderPiece}
+use Rattle.pt_walk.specs.Walks.{IsFree}
 use Rattle.pt_walk.specs.Ways.{Comes, HasNext, is_left, rested}
-use Rattle.pt_walk.proofs.Quotients.{pages_few}
-use Rattle.pt_walk.proofs.Books.{one_of_left, one_of_right, piece_over}
+use Rattle.pt_walk.proofs.Cuts.{pages_few}
+use Rattle.pt_walk.proofs.Books.{piece_over}
 
 -- Tests.
 

@@ -1,12 +1,11 @@
-pub mod Quotients
-pub mod OverPage
-pub mod Loads
+-- Facts for other crates: numbers as the code makes them, the way down to a page, ranges of pages under a table.
+pub mod Cuts
 pub mod Descent
 pub mod Ranges
-pub mod Climbs
+mod Climbs
 pub mod Books
-pub mod Bytes
-pub mod Leaves
-pub mod LeftBlocks
-pub mod WayTables
-pub mod Ways
+mod Bytes
+mod Leaves
+mod LeftBlocks
+mod WayTables
+mod Ways

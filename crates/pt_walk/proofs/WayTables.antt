@@ -9,10 +9,10 @@ use Rattle.pt_view.specs.declared.view.View.{View}
 use Rattle.pt_view.specs.declared.view.Node.{Node}
 use Rattle.pt_view.specs.Views.{SameBook}
 use Rattle.pt_view.specs.Calls.{lowest}
-use Rattle.pt_walk.specs.Walks.{IsOver}
+use Rattle.pt_view.specs.Loads.{IsOver}
+use Rattle.pt_view.proofs.Paths.{lowest_snoc}
 use Rattle.pt_walk.specs.Ways.{Begins, HasTable, HasTables}
-use Rattle.pt_walk.proofs.Quotients.{same_position}
-use Rattle.pt_walk.proofs.Loads.{lowest_snoc}
+use Rattle.pt_model.proofs.Positions.{same_position}
 use Rattle.pt_walk.proofs.Ranges.{clear_from, clear_on}
 
 -- One table.
@@ -33,7 +33,7 @@ module _ (f : Layout) (v : View) (at end level to : ℕ) (x : Node) (t : HasTabl
 
   -- it is over the next page
   pub table_over : (xs : List Node) → v.path ≡ xs ++ x ∷ [] → IsOver f v at level
-  table_over xs path = (x.frame, ap lowest path ∙ lowest_snoc xs x ∙ ap (λ (p : Position). Some (record { frame = x.frame; position = p })) same_place)
+  table_over xs path = record { frame = x.frame; is = ap lowest path ∙ lowest_snoc xs x ∙ ap (λ (p : Position). Some (record { frame = x.frame; position = p })) same_place }
 
   -- what is left there lies under it
   pub table_end : to ≤ end_of_table f (position_over f at level)
@@ -48,7 +48,7 @@ table_on f v w at next end level to x book on t = record {
   is = t.is;
   from = let a = t.from in omega arith;
   within = t.within;
-  clear = clear_on f v w next to level book (clear_from f v at to next to level t.clear on (omega arith));
+  clear = clear_on f next to level book (clear_from f v at to next to level t.clear on (omega arith));
 }
 
 -- All tables.

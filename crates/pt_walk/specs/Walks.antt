@@ -1,6 +1,5 @@
--- The way down to a page, and what a walk leaves as it was.
+-- The way down to a page, and what a range's pages are mapped to.
 use Rattle.std.specs.Prelude.{◌≡◌, ◌⊎◌, ℕ, ◌+◌, ◌-◌, ◌*◌, ◌/◌, ◌%◌, ◌^◌, ◌<◌, ◌≤◌, ◌==◌, List, [], ◌∷◌, ◌++◌, length, Option, None, Some, IsTrue, if◌then◌else◌, ⊤}
-use Rattle.pt_model.specs.declared.position.Position.{Position}
 use Rattle.pt_model.specs.declared.block.Prot.{Prot}
 use Rattle.pt_model.specs.Layout.{Layout, IsLegalBlock, end_of, input_pages, pages_of_entry, pages_of_table}
 use Rattle.pt_model.specs.Tables.{end_of_table, is_spine, position_over, spine_position}
@@ -10,31 +9,15 @@ use Rattle.pt_format.specs.Words.{IsUnder, MayBeLeaf}
 use Rattle.pt_view.specs.declared.view.View.{View}
 use Rattle.pt_view.specs.declared.view.Node.{Node}
 use Rattle.pt_view.specs.declared.view.Piece.{Piece}
-use Rattle.pt_view.specs.declared.view.Absence.{Absence}
 use Rattle.pt_model.specs.Sets.{IsAmong}
-use Rattle.pt_view.specs.Lists.{SameFrames}
-use Rattle.pt_view.specs.Pieces.{IsOneOf, first_of, level_of, table_of, word_of, words_of}
-use Rattle.pt_view.specs.Views.{IsAtRest, SameRange, SameBook, SamePurse}
-use Rattle.pt_view.specs.Calls.{lowest}
-
--- the number of the entry at which the way to a page goes on, in a table of this level
-abbrev pub entry_number : Layout → (level page : ℕ) → ℕ
-entry_number f level page = page / pages_of_entry f level % 2 ^ f.index
-
-abbrev pub IsInSpan : View → (page : ℕ) → Type 0
-IsInSpan v page = (v.first ≤ page) × (page < v.first + v.count)
-
--- the path's last table is the one of this level over the page
-abbrev pub IsOver : Layout → View → (page level : ℕ) → Type 0
-IsOver f v page level = (frame : ℕ) × (lowest v.path ≡ Some (record { frame = frame; position = position_over f page level }))
+use Rattle.pt_view.specs.Pieces.{IsOneOf, IsUnderPiece, entry_number, level_of, table_of, word_of, words_of}
+use Rattle.pt_view.specs.Views.{IsAtRest}
+use Rattle.pt_view.specs.Loads.{IsInSpan, IsOver}
+use Rattle.pt_view.specs.Calls.{IsVacant, pieces_at}
 
 -- the path is the root's table alone, and its level is at least that of the book's top
 abbrev pub IsRooted : View → (level : ℕ) → Type 0
 IsRooted v level = (v.top ≤ level) × (frame : ℕ) × (v.path ≡ record { frame = frame; position = spine_position level } ∷ [])
-
--- a page is one of those under a piece
-abbrev pub IsUnderPiece : Layout → Piece → (page : ℕ) → Type 0
-IsUnderPiece f x page = (first_of f x ≤ page) × (page < first_of f x + pages_of_entry f (level_of f x))
 
 -- a piece of a legal block below the top, in a table of the book or of the spine
 pub record IsOwn (f : Layout) (v : View) (x : Piece) : Type 0 where
@@ -84,22 +67,6 @@ pub record IsFound (f : Layout) (v : View) (page level word : ℕ) : Type 0 wher
 -- the leaf that an entry's word is, where it isn't zero
 abbrev pub leaf_in : (word : ℕ) → Option ℕ
 leaf_in word = if word == 0 then None else Some word
-
--- what loads showed to be absent comes after what they showed before
-abbrev pub AddsAbsences : (v w : View) → Type 0
-AddsAbsences v w = (facts : List Absence) × (w.absent ≡ v.absent ++ facts)
-
--- what a walk leaves as it was; it may come to know of more linked positions, and of absent ones
-pub record Walked (tells : Type 0) (v w : View) : Type 0 where
-  pub range : SameRange v w
-  pub book : SameBook v w
-  pub purse : SamePurse v w
-  pub prepared : w.prepared ≡ v.prepared
-  pub busy : SameFrames v.busy w.busy
-  pub known : (p : Position) → IsAmong v.known p → IsAmong w.known p
-  pub taken : tells → w.taken ≡ v.taken
-  pub stores : tells → w.stores ≡ v.stores
-  pub absent : tells → AddsAbsences v w
 
 -- the page of an address, where it is one of these
 abbrev pub IsPageIn : Layout → (first count address page : ℕ) → Type 0
@@ -163,3 +130,12 @@ pub record WentDown (f : Layout) (v w : View) (page level lower : ℕ) : Type 0 
 abbrev pub OwnsOver : Layout → View → (page low high : ℕ) → Type 0
 OwnsOver f v page low high =
     (level : ℕ) → low ≤ level → level < high → IsAmong v.tables (position_over f page level) ⊎ IsTrue (is_spine v.levels (position_over f page level))
+
+-- why a way down over a range stops in the path's last table, of this level: the level was the lowest one asked for,
+-- the range isn't under one entry there, nothing is there, or the word of a block is
+pub data StopsAt (f : Layout) (v : View) (first end lowest level : ℕ) : Type 0 where
+  low_enough : level ≡ lowest → StopsAt f v first end lowest level
+  too_wide : (first / pages_of_entry f level + 1) * pages_of_entry f level < end → StopsAt f v first end lowest level
+  nothing : IsVacant f v (position_over f first level) (entry_number f level first) → StopsAt f v first end lowest level
+  mapped : (piece : Piece) → IsOneOf v.pieces piece → pieces_at f (position_over f first level) (entry_number f level first) (piece ∷ []) ≡ 1 →
+      StopsAt f v first end lowest level

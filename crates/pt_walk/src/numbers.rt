@@ -2,7 +2,7 @@
 
 ghost use Rattle.std.specs.Prelude.{◌≡◌, ◌↔◌, ◌+◌, ◌*◌, ◌^◌, ◌<◌, ◌≤◌, IsTrue, min};
 ghost use Rattle.pt_model.specs.Layout.{input_pages, pages_of_table};
-ghost use Rattle.pt_walk.specs.Walks as walks;
+ghost use Rattle.pt_view.specs.Pieces as pieces;
 
 use pt_format::Format;
 
@@ -19,7 +19,7 @@ pub fn entry_bits<F: Format>(level: u32) -> u32
 pub fn entry_number<F: Format>(level: u32, page: u64) -> u32
     requires a_level { level < F.layout.levels }
     requires a_page { page < input_pages F.layout }
-    ensures number { result ≡ walks.entry_number F.layout level page }
+    ensures number { result ≡ pieces.entry_number F.layout level page }
     ensures within { result < 2 ^ F.layout.index }
 {
     let entry = page >> entry_bits::<F>(level);

@@ -2,7 +2,8 @@
 
 ghost use Rattle.pt_view.specs.Views.{Stays};
 ghost use Rattle.std.specs.Prelude.{◌≡◌, MatchOption, []};
-ghost use Rattle.pt_walk.specs.Walks.{leaf_in, IsAsked, IsGoing, HasNone, HasNowhere, IsFound, Walked, WentDown};
+ghost use Rattle.pt_walk.specs.Walks.{leaf_in, IsAsked, IsGoing, HasNone, HasNowhere, IsFound, WentDown};
+ghost use Rattle.pt_view.specs.Loads.{ByLoads};
 
 use crate::climb;
 use crate::numbers::{entry_number, is_under_spine};
@@ -28,7 +29,7 @@ pub(crate) struct Lowest {
 fn go_down<F: Format, H: Holder<F>>(holder: &mut H, page: u64, level: u32) -> Lowest
     requires going { IsGoing F.layout (H.view holder.old) page level }
     ensures stays { Stays H.space H.aside H.alone holder.old holder.new }
-    ensures walked { Walked H.tells (H.view holder.old) (H.view holder.new) }
+    ensures walked { ByLoads H.tells (H.view holder.old) (H.view holder.new) }
     ensures down { WentDown F.layout (H.view holder.old) (H.view holder.new) page level result.level }
     ensures found { MatchOption (leaf_in result.word) (HasNone F.layout (H.view holder.old) page level) (λ word. IsFound F.layout (H.view holder.old) page result.level word) }
 {
@@ -44,7 +45,7 @@ pub(crate) fn leaf_over<F: Format, H: Holder<F>>(holder: &mut H, page: u64) -> O
     requires rest { (H.view holder.old).path ≡ [] }
     requires asked { IsAsked F.layout (H.view holder.old) page }
     ensures stays { Stays H.space H.aside H.alone holder.old holder.new }
-    ensures walked { Walked H.tells (H.view holder.old) (H.view holder.new) }
+    ensures walked { ByLoads H.tells (H.view holder.old) (H.view holder.new) }
     ensures rest { (H.view holder.new).path ≡ [] }
     ensures found { MatchOption result (HasNowhere F.layout (H.view holder.old) page) (λ leaf. IsFound F.layout (H.view holder.old) page leaf.level leaf.word) }
 {

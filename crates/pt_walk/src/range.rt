@@ -1,11 +1,11 @@
 //! Ranges of pages: the table over a whole range, and the lowest mapped page of it.
 
 ghost use Rattle.pt_view.specs.Views.{Stays};
-ghost use Rattle.std.specs.Prelude.{◌≡◌, ◌+◌, ◌-◌, ◌*◌, ◌/◌, ◌^◌, ◌<◌, ◌≤◌, IsTrue, MatchOption, min, length, List, [], ◌++◌};
+ghost use Rattle.std.specs.Prelude.{◌≡◌, ◌+◌, ◌-◌, ◌*◌, ◌/◌, ◌^◌, ◌<◌, ◌≤◌, ◌↔◌, IsTrue, MatchOption, min, length, List, [], ◌++◌};
 ghost use Rattle.pt_model.specs.Layout.{input_pages, pages_of_entry};
-ghost use Rattle.pt_view.specs.Calls.{above};
 ghost use Rattle.pt_view.specs.declared.view.Node.{Node};
-ghost use Rattle.pt_walk.specs.Walks.{IsClear, IsOverRange, IsFree, IsLowest, OwnsAll, OwnsOver, Walked, WentDown};
+ghost use Rattle.pt_walk.specs.Walks.{IsClear, IsOverRange, IsFree, IsLowest, OwnsAll, OwnsOver, StopsAt, WentDown};
+ghost use Rattle.pt_view.specs.Loads.{ByLoads};
 
 use crate::numbers::{entry_bits, entry_number};
 use pt_format::Format;
@@ -28,9 +28,10 @@ pub fn entry_end<F: Format>(level: u32, page: u64) -> u64
 fn lies_under<F: Format>(level: u32, lowest: u32, first: u64, end: u64, whole: bool) -> bool
     requires a_level { level < F.layout.levels }
     requires a_page { first < input_pages F.layout }
+    requires in_space { end ≤ input_pages F.layout }
     requires lowest { lowest ≤ level }
     requires whole { IsTrue whole → end ≤ (first / pages_of_entry F.layout lowest + 1) * pages_of_entry F.layout lowest }
-    ensures { IsTrue result → end ≤ (first / pages_of_entry F.layout level + 1) * pages_of_entry F.layout level }
+    ensures { IsTrue result ↔ (end ≤ (first / pages_of_entry F.layout level + 1) * pages_of_entry F.layout level) }
 {
     if whole {
         return true;
@@ -39,7 +40,7 @@ fn lies_under<F: Format>(level: u32, lowest: u32, first: u64, end: u64, whole: b
 }
 
 /// Goes down, from the path's last table, of this level, while the range lies under one of its entries,
-/// that names a table, and the level is above `lowest`. Answers the level of the table where it ends. Where the
+/// that names a table, and the level is all_but_last `lowest`. Answers the level of the table where it ends. Where the
 /// caller knows that the range is `whole`, under one entry of a table of level `lowest`, that isn't tested.
 pub fn descend<F: Format, H: Holder<F>>(
     holder: &mut H,
@@ -53,10 +54,11 @@ pub fn descend<F: Format, H: Holder<F>>(
     requires lowest { lowest ≤ level }
     requires whole { IsTrue whole → end ≤ (first / pages_of_entry F.layout lowest + 1) * pages_of_entry F.layout lowest }
     ensures stays { Stays H.space H.aside H.alone holder.old holder.new }
-    ensures walked { Walked H.tells (H.view holder.old) (H.view holder.new) }
+    ensures walked { ByLoads H.tells (H.view holder.old) (H.view holder.new) }
     ensures range { IsOverRange F.layout (H.view holder.new) first end result }
     ensures down { WentDown F.layout (H.view holder.old) (H.view holder.new) first level result }
     ensures lowest { lowest ≤ result }
+    ensures stops { StopsAt F.layout (H.view holder.new) first end lowest result }
     ensures owned { H.alone holder.old → OwnsOver F.layout (H.view holder.old) first result level }
     ensures clear { OwnsAll F.layout (H.view holder.old) → IsClear F.layout (H.view holder.old) first end level → IsClear F.layout (H.view holder.new) first end result }
 {
@@ -93,7 +95,7 @@ pub fn first_below<F: Format, H: Holder<F>>(
     requires range { IsOverRange F.layout (H.view holder.old) first end level }
     requires owns { OwnsAll F.layout (H.view holder.old) }
     ensures stays { Stays H.space H.aside H.alone holder.old holder.new }
-    ensures walked { Walked H.tells (H.view holder.old) (H.view holder.new) }
+    ensures walked { ByLoads H.tells (H.view holder.old) (H.view holder.new) }
     ensures path { (H.view holder.new).path ≡ (H.view holder.old).path }
     ensures lowest { IsClear F.layout (H.view holder.old) first end level → MatchOption result (IsFree F.layout (H.view holder.old) first end) (λ page. IsLowest F.layout (H.view holder.old) first end page) }
 {
@@ -123,7 +125,7 @@ pub fn first_at<F: Format, H: Holder<F>>(
     requires one { end ≤ (first / pages_of_entry F.layout level + 1) * pages_of_entry F.layout level }
     requires owns { OwnsAll F.layout (H.view holder.old) }
     ensures stays { Stays H.space H.aside H.alone holder.old holder.new }
-    ensures walked { Walked H.tells (H.view holder.old) (H.view holder.new) }
+    ensures walked { ByLoads H.tells (H.view holder.old) (H.view holder.new) }
     ensures path { (H.view holder.new).path ≡ (H.view holder.old).path }
     ensures lowest { IsClear F.layout (H.view holder.old) first end level → MatchOption result (IsFree F.layout (H.view holder.old) first end) (λ page. IsLowest F.layout (H.view holder.old) first end page) }
 {

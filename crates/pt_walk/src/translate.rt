@@ -7,7 +7,8 @@ ghost use Rattle.pt_model.specs.Layout.{input_pages};
 ghost use Rattle.pt_model.specs.Book.{is_outside, translation};
 ghost use Rattle.pt_format.specs.Words.{IsLeaf};
 ghost use Rattle.pt_view.specs.Views.{Stays, IsAtRest, book_of};
-ghost use Rattle.pt_walk.specs.Walks.{IsPageIn, MapsTo, Rests, Walked};
+ghost use Rattle.pt_walk.specs.Walks.{IsPageIn, MapsTo, Rests};
+ghost use Rattle.pt_view.specs.Loads.{ByLoads};
 
 use crate::path::{Leaf, leaf_over};
 use pt_format::{Format, Prot, Span, page_of};
@@ -54,7 +55,7 @@ pub fn lookup<F: Format, H: Holder<F>>(
 ) -> Result<Option<(u64, Prot)>, OutsideLease>
     requires rest { Rests F.layout (H.view holder.old) }
     ensures stays { Stays H.space H.aside H.alone holder.old holder.new }
-    ensures walked { Walked H.tells (H.view holder.old) (H.view holder.new) }
+    ensures walked { ByLoads H.tells (H.view holder.old) (H.view holder.new) }
     ensures rest { (blocks : List Block) → IsAtRest F.layout (H.view holder.old) blocks → IsAtRest F.layout (H.view holder.new) blocks }
     ensures outside { (blocks : List Block) → IsErr result ↔ IsTrue (is_outside F.layout (book_of (H.view holder.old) blocks) address) }
     ensures found { IfOk result (λ to. (blocks : List Block) → IsAtRest F.layout (H.view holder.old) blocks → to ≡ translation F.layout (book_of (H.view holder.old) blocks) address) }

@@ -4,7 +4,8 @@ ghost use Rattle.std.specs.Prelude.{◌≡◌, ℕ, ◌+◌, ◌<◌, ◌≤◌,
 ghost use Rattle.pt_model.specs.declared.block.Block.{Block};
 ghost use Rattle.pt_model.specs.Book.{lowest_mapped, meets};
 ghost use Rattle.pt_view.specs.Views.{Stays, IsAtRest, book_of};
-ghost use Rattle.pt_walk.specs.Walks.{Rests, Walked};
+ghost use Rattle.pt_walk.specs.Walks.{Rests};
+ghost use Rattle.pt_view.specs.Loads.{ByLoads};
 ghost use Rattle.pt_walk.specs.Ways.{HasNext, HasSpan, IsWalking, left_of, rested};
 
 use crate::climb;
@@ -40,7 +41,7 @@ impl<F: Format> RangeWalk<F> {
         requires rest { Rests F.layout (H.view holder.old) }
         requires span { HasSpan (H.view holder.old) span.first span.count }
         ensures stays { Stays H.space H.aside H.alone holder.old holder.new }
-        ensures walked { Walked H.tells (H.view holder.old) (H.view holder.new) }
+        ensures walked { ByLoads H.tells (H.view holder.old) (H.view holder.new) }
         ensures walking { IsWalking F.layout (H.view holder.new) result }
         ensures rest { (blocks : List Block) → IsAtRest F.layout (H.view holder.old) blocks → IsAtRest F.layout (rested (H.view holder.new)) blocks }
         ensures left { (blocks : List Block) → IsAtRest F.layout (H.view holder.old) blocks → 0 < span.count → left_of result blocks ≡ filter (meets span.first (span.first + span.count)) blocks }
@@ -67,7 +68,7 @@ impl<F: Format> RangeWalk<F> {
     pub fn next<H: Holder<F>>(&mut self, holder: &mut H) -> Option<Block>
         requires walking { IsWalking F.layout (H.view holder.old) self.old }
         ensures stays { Stays H.space H.aside H.alone holder.old holder.new }
-        ensures walked { Walked H.tells (H.view holder.old) (H.view holder.new) }
+        ensures walked { ByLoads H.tells (H.view holder.old) (H.view holder.new) }
         ensures walking { IsWalking F.layout (H.view holder.new) self.new }
         ensures rest { (blocks : List Block) → IsAtRest F.layout (rested (H.view holder.old)) blocks → IsAtRest F.layout (rested (H.view holder.new)) blocks }
         ensures comes { (blocks : List Block) → IsAtRest F.layout (rested (H.view holder.old)) blocks → HasNext result (left_of self.old blocks) (left_of self.new blocks) }
@@ -90,7 +91,7 @@ pub fn next_block<F: Format, H: Holder<F>>(holder: &mut H, span: Span) -> Option
     requires rest { Rests F.layout (H.view holder.old) }
     requires span { HasSpan (H.view holder.old) span.first span.count }
     ensures stays { Stays H.space H.aside H.alone holder.old holder.new }
-    ensures walked { Walked H.tells (H.view holder.old) (H.view holder.new) }
+    ensures walked { ByLoads H.tells (H.view holder.old) (H.view holder.new) }
     ensures rest { (blocks : List Block) → IsAtRest F.layout (H.view holder.old) blocks → IsAtRest F.layout (H.view holder.new) blocks }
     ensures found { (blocks : List Block) → IsAtRest F.layout (H.view holder.old) blocks → 0 < span.count → result ≡ find (meets span.first (span.first + span.count)) blocks }
     ensures nothing { span.count ≡ 0 → result ≡ None }
@@ -106,7 +107,7 @@ pub fn first_mapped<F: Format, H: Holder<F>>(holder: &mut H, span: Span) -> Opti
     requires rest { Rests F.layout (H.view holder.old) }
     requires span { HasSpan (H.view holder.old) span.first span.count }
     ensures stays { Stays H.space H.aside H.alone holder.old holder.new }
-    ensures walked { Walked H.tells (H.view holder.old) (H.view holder.new) }
+    ensures walked { ByLoads H.tells (H.view holder.old) (H.view holder.new) }
     ensures rest { (blocks : List Block) → IsAtRest F.layout (H.view holder.old) blocks → IsAtRest F.layout (H.view holder.new) blocks }
     ensures found { (blocks : List Block) → IsAtRest F.layout (H.view holder.old) blocks → 0 < span.count → result ≡ lowest_mapped (book_of (H.view holder.old) blocks) span.first (span.first + span.count) }
     ensures nothing { span.count ≡ 0 → result ≡ None }

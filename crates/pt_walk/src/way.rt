@@ -3,7 +3,7 @@
 ghost use Rattle.std.specs.Prelude.{◌≡◌, ℕ, ◌+◌, ◌-◌, ◌*◌, ◌<◌, ◌≤◌, List, length};
 ghost use Rattle.pt_model.specs.declared.block.Block.{Block};
 ghost use Rattle.pt_view.specs.Views.{Stays, IsAtRest};
-ghost use Rattle.pt_walk.specs.Walks.{Walked};
+ghost use Rattle.pt_view.specs.Loads.{ByLoads};
 ghost use Rattle.pt_walk.specs.Ways.{IsOnWay, IsWalking, Comes, HasNext, rested, left_of, work_of};
 
 use crate::block::{block_of, end_of};
@@ -28,7 +28,7 @@ pub(crate) struct Way {
 fn rise<F: Format, H: Holder<F>>(way: &mut Way, holder: &mut H)
     requires way { IsOnWay F.layout (H.view holder.old) way.old }
     ensures stays { Stays H.space H.aside H.alone holder.old holder.new }
-    ensures walked { Walked H.tells (H.view holder.old) (H.view holder.new) }
+    ensures walked { ByLoads H.tells (H.view holder.old) (H.view holder.new) }
     ensures way { IsWalking F.layout (H.view holder.new) way.new }
     ensures at { way.new.at ≡ way.old.at }
     ensures end { way.new.end ≡ way.old.end }
@@ -49,7 +49,7 @@ fn step<F: Format, H: Holder<F>>(way: &mut Way, holder: &mut H) -> Option<Block>
     requires way { IsWalking F.layout (H.view holder.old) way.old }
     requires more { way.old.at < way.old.end }
     ensures stays { Stays H.space H.aside H.alone holder.old holder.new }
-    ensures walked { Walked H.tells (H.view holder.old) (H.view holder.new) }
+    ensures walked { ByLoads H.tells (H.view holder.old) (H.view holder.new) }
     ensures way { IsWalking F.layout (H.view holder.new) way.new }
     ensures end { way.new.end ≡ way.old.end }
     ensures less { work_of way.new < work_of way.old }
@@ -83,7 +83,7 @@ fn step<F: Format, H: Holder<F>>(way: &mut Way, holder: &mut H) -> Option<Block>
 pub(crate) fn next<F: Format, H: Holder<F>>(way: &mut Way, holder: &mut H) -> Option<Block>
     requires way { IsWalking F.layout (H.view holder.old) way.old }
     ensures stays { Stays H.space H.aside H.alone holder.old holder.new }
-    ensures walked { Walked H.tells (H.view holder.old) (H.view holder.new) }
+    ensures walked { ByLoads H.tells (H.view holder.old) (H.view holder.new) }
     ensures way { IsWalking F.layout (H.view holder.new) way.new }
     ensures comes { (blocks : List Block) → IsAtRest F.layout (rested (H.view holder.old)) blocks → HasNext result (left_of way.old blocks) (left_of way.new blocks) }
 {

@@ -1,5 +1,5 @@
 use Rattle.std.proofs.Common.{◌≡◌, ◌*◌, ◌/◌, ◌%◌, ◌^◌, ◌<◌, arith, ap, sym, ◌∙◌}
-use Rattle.pt_walk.proofs.Quotients.{pages_few, quotient_cut, masked}
+use Rattle.pt_walk.proofs.Cuts.{pages_few, quotient_cut, masked}
 use Rattle.pt_walk.proofs.numbers.entry_number.Goals as goal
 
 pub returns-clause-number : goal.returns-clause-number

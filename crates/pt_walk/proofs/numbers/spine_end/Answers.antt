@@ -1,6 +1,6 @@
 use Rattle.std.proofs.Common.{◌+◌, ◌*◌, ◌^◌, ap, ◌∙◌, arith}
 use Rattle.std.proofs.lemmas.Nat.{one_shl}
-use Rattle.pt_walk.proofs.Ranges.{power_cut}
+use Rattle.pt_walk.proofs.Cuts.{power_cut}
 use Rattle.pt_walk.proofs.numbers.spine_end.Goals as goal
 
 pub returns : goal.returns

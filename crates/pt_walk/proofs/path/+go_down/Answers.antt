@@ -1,102 +1,75 @@
-use Rattle.std.proofs.Common.{rules, refl, ◌-◌, ◌<◌}
-use Rattle.pt_view.specs.declared.view.View.{View}
+use Rattle.std.proofs.Common.{ℕ, ◌-◌, ◌<◌, rules}
+use Rattle.pt_view.proofs.Entries.{may_enter}
+use Rattle.pt_view.proofs.Loads.{IsLoad, leaf_loads, load_leaf, load_none, loads_on, none_loads, table_high, table_loads}
 use Rattle.pt_walk.specs.Walks.{HasNone, IsFound, IsGoing, leaf_in}
-use Rattle.pt_walk.proofs.Loads.{empty_path, empty_walked, entered_high, entered_path, entered_walked, leaf_path, leaf_walked, may_enter, walked_on}
 use Rattle.pt_walk.proofs.Descent.{empty_none, entered_going, found_on, leaf_found, leaf_is, leaf_nonzero, match_on, none_below}
 use Rattle.pt_walk.proofs.Ranges.{down_here, down_more}
+use Rattle.pt_walk.proofs.path.+go_down.Given.{Over}
 use Rattle.pt_walk.proofs.path.+go_down.Goals as goal
+use Rattle.pt_walk.proofs.path.+go_down.Goals.{After-enter}
+
+-- the load of the entry on the way
+load : (g : Over) (t : ℕ) (c : After-enter g t) → IsLoad g.F.Format.layout g.H.Holder.tells (g.H.Holder.alone c.args.holder.now) (g.H.Holder.view c.args.holder.now) c.args.page c.args.level c.enter.result (g.H.Holder.view c.enter.new.self)
+load g t c = record {
+  over = c.requires.going.over;
+  inside = c.requires.going.asked.in_span;
+  number = c.entry_number.result;
+  is = c.entry_number.ensures.number;
+  went = c.enter.ensures.went;
+}
 
 pub enter-requires : goal.enter-requires
-enter-requires g t c =
-    may_enter g.F.Format.layout g.H.Holder.tells (g.H.Holder.alone c.args.holder.now) (g.H.Holder.view c.args.holder.now) c.args.page c.args.level
-    c.requires.going.over c.requires.going.asked.in_span c.entry_number.result c.entry_number.ensures.number
+enter-requires g t c = may_enter c.requires.going.over c.requires.going.asked.in_span c.entry_number.result c.entry_number.ensures.number
 
 pub overflow_sub-level : goal.overflow_sub-level
-overflow_sub-level g t c =
-    entered_high g.F.Format.layout g.H.Holder.tells (g.H.Holder.alone c.args.holder.now) (g.H.Holder.view c.args.holder.now) c.args.page c.args.level
-    c.requires.going.over c.requires.going.asked.in_span c.entry_number.result c.entry_number.ensures.number c.enter.result (g.H.Holder.view c.enter.new.self) c.enter.ensures.went c.in-Entered.is
+overflow_sub-level g t c = table_high (load g t (goal.at.overflow_sub-level g t c).After-enter) c.in-Entered.is
 
 pub go_down-requires : goal.go_down-requires
 go_down-requires g t c κs within =
-    let go : IsGoing g.F.Format.layout (g.H.Holder.view c.enter.new.self) c.args.page (c.args.level - 1) =
-    entered_going g.F.Format.layout g.met.F.Format.lawful_layout g.H.Holder.tells (g.H.Holder.alone c.args.holder.now) (g.H.Holder.view c.args.holder.now) c.args.page c.args.level
-    c.requires.going c.entry_number.result c.entry_number.ensures.number c.enter.result (g.H.Holder.view c.enter.new.self) c.enter.ensures.went c.in-Entered.is in
-    let high : 0 < c.args.level =
-    entered_high g.F.Format.layout g.H.Holder.tells (g.H.Holder.alone c.args.holder.now) (g.H.Holder.view c.args.holder.now) c.args.page c.args.level
-    c.requires.going.over c.requires.going.asked.in_span c.entry_number.result c.entry_number.ensures.number c.enter.result (g.H.Holder.view c.enter.new.self) c.enter.ensures.went c.in-Entered.is in
+    let l = load g t (goal.at.go_down-requires g t c).After-enter in
+    let go : IsGoing g.F.Format.layout (g.H.Holder.view c.enter.new.self) c.args.page (c.args.level - 1) = entered_going l c.in-Entered.is c.requires.going in
+    let high : 0 < c.args.level = table_high l c.in-Entered.is in
     search (rules, go)
 
 pub returns-in-Empty-clause-walked : goal.returns-in-Empty-clause-walked
-returns-in-Empty-clause-walked g t c =
-    empty_walked g.F.Format.layout g.H.Holder.tells (g.H.Holder.alone c.args.holder.now) (g.H.Holder.view c.args.holder.now) c.args.page c.args.level
-    c.requires.going.over c.requires.going.asked.in_span c.entry_number.result c.entry_number.ensures.number c.enter.result (g.H.Holder.view c.enter.new.self) c.enter.ensures.went c.in-Empty.is
+returns-in-Empty-clause-walked g t c = none_loads (load g t (goal.at.returns-in-Empty-clause-walked g t c).After-enter) c.in-Empty.is
 
 pub returns-in-Empty-clause-down : goal.returns-in-Empty-clause-down
-returns-in-Empty-clause-down g t c =
-    let f = g.F.Format.layout in
-    let v : View = g.H.Holder.view c.args.holder.now in
-    let w : View = g.H.Holder.view c.enter.new.self in
-    down_here f v w c.args.page c.args.level c.requires.going.over
-    (empty_path f g.H.Holder.tells (g.H.Holder.alone c.args.holder.now) v c.args.page c.args.level
-    c.requires.going.over c.requires.going.asked.in_span c.entry_number.result c.entry_number.ensures.number c.enter.result w c.enter.ensures.went c.in-Empty.is)
+returns-in-Empty-clause-down g t c = down_here c.requires.going.over (load_none (load g t (goal.at.returns-in-Empty-clause-down g t c).After-enter) c.in-Empty.is).path
 
 pub returns-in-Empty-clause-found : goal.returns-in-Empty-clause-found
 returns-in-Empty-clause-found g t c =
-    empty_none g.F.Format.layout g.met.F.Format.lawful_layout g.H.Holder.tells (g.H.Holder.alone c.args.holder.now) (g.H.Holder.view c.args.holder.now) c.args.page c.args.level
-    c.requires.going c.entry_number.result c.entry_number.ensures.number c.enter.result (g.H.Holder.view c.enter.new.self) c.enter.ensures.went c.in-Empty.is
+    empty_none g.met.F.Format.lawful_layout c.requires.going.asked.owns (load g t (goal.at.returns-in-Empty-clause-found g t c).After-enter) c.in-Empty.is
 
 pub returns-in-Leaf-clause-walked : goal.returns-in-Leaf-clause-walked
-returns-in-Leaf-clause-walked g t c =
-    leaf_walked g.F.Format.layout g.H.Holder.tells (g.H.Holder.alone c.args.holder.now) (g.H.Holder.view c.args.holder.now) c.args.page c.args.level
-    c.requires.going.over c.requires.going.asked.in_span c.entry_number.result c.entry_number.ensures.number c.enter.result (g.H.Holder.view c.enter.new.self) c.enter.ensures.went c.in-Leaf.word c.in-Leaf.is
+returns-in-Leaf-clause-walked g t c = leaf_loads (load g t (goal.at.returns-in-Leaf-clause-walked g t c).After-enter) c.in-Leaf.is
 
 pub returns-in-Leaf-clause-down : goal.returns-in-Leaf-clause-down
-returns-in-Leaf-clause-down g t c =
-    let f = g.F.Format.layout in
-    let v : View = g.H.Holder.view c.args.holder.now in
-    let w : View = g.H.Holder.view c.enter.new.self in
-    down_here f v w c.args.page c.args.level c.requires.going.over
-    (leaf_path f g.H.Holder.tells (g.H.Holder.alone c.args.holder.now) v c.args.page c.args.level
-    c.requires.going.over c.requires.going.asked.in_span c.entry_number.result c.entry_number.ensures.number c.enter.result w c.enter.ensures.went c.in-Leaf.word c.in-Leaf.is)
+returns-in-Leaf-clause-down g t c = down_here c.requires.going.over (load_leaf (load g t (goal.at.returns-in-Leaf-clause-down g t c).After-enter) c.in-Leaf.is).path
 
 pub returns-in-Leaf-clause-found : goal.returns-in-Leaf-clause-found
 returns-in-Leaf-clause-found g t c =
     let f = g.F.Format.layout in
-    let v : View = g.H.Holder.view c.args.holder.now in
-    let found = leaf_found f g.met.F.Format.lawful_layout g.H.Holder.tells (g.H.Holder.alone c.args.holder.now) v c.args.page c.args.level
-    c.requires.going c.entry_number.result c.entry_number.ensures.number c.enter.result (g.H.Holder.view c.enter.new.self) c.enter.ensures.went c.in-Leaf.word c.in-Leaf.is in
-    let some = leaf_nonzero f g.met.F.Format.lawful_layout g.H.Holder.tells (g.H.Holder.alone c.args.holder.now) v c.args.page c.args.level
-    c.requires.going c.entry_number.result c.entry_number.ensures.number c.enter.result (g.H.Holder.view c.enter.new.self) c.enter.ensures.went g.met.F.Format.words_differ c.in-Leaf.word c.in-Leaf.is in
-    leaf_is c.in-Leaf.word (HasNone f v c.args.page c.args.level) (λ word. IsFound f v c.args.page c.args.level word) some found
+    let v = g.H.Holder.view c.args.holder.now in
+    let l = load g t (goal.at.returns-in-Leaf-clause-found g t c).After-enter in
+    let owns = c.requires.going.asked.owns in
+    leaf_is c.in-Leaf.word (HasNone f v c.args.page c.args.level) (λ word. IsFound f v c.args.page c.args.level word)
+    (leaf_nonzero g.met.F.Format.lawful_layout owns l g.met.F.Format.words_differ c.in-Leaf.is) (leaf_found g.met.F.Format.lawful_layout owns l c.in-Leaf.is)
 
 pub returns-in-Entered-clause-walked : goal.returns-in-Entered-clause-walked
 returns-in-Entered-clause-walked g t c =
-    let v : View = g.H.Holder.view c.args.holder.now in
-    let w : View = g.H.Holder.view c.enter.new.self in
-    walked_on g.H.Holder.tells v w (g.H.Holder.view c.go_down.new.holder)
-    (entered_walked g.F.Format.layout g.H.Holder.tells (g.H.Holder.alone c.args.holder.now) v c.args.page c.args.level
-    c.requires.going.over c.requires.going.asked.in_span c.entry_number.result c.entry_number.ensures.number c.enter.result w c.enter.ensures.went c.in-Entered.is)
-    c.go_down.ensures.walked
+    loads_on (table_loads (load g t (goal.at.returns-in-Entered-clause-walked g t c).After-enter) c.in-Entered.is) c.go_down.ensures.walked
 
 pub returns-in-Entered-clause-down : goal.returns-in-Entered-clause-down
-returns-in-Entered-clause-down g t c =
-    let f = g.F.Format.layout in
-    let v : View = g.H.Holder.view c.args.holder.now in
-    let w : View = g.H.Holder.view c.enter.new.self in
-    let path = entered_path f g.H.Holder.tells (g.H.Holder.alone c.args.holder.now) v c.args.page c.args.level
-    c.requires.going.over c.requires.going.asked.in_span c.entry_number.result c.entry_number.ensures.number c.enter.result w c.enter.ensures.went c.in-Entered.is in
-    let high : 0 < c.args.level =
-    entered_high f g.H.Holder.tells (g.H.Holder.alone c.args.holder.now) v c.args.page c.args.level
-    c.requires.going.over c.requires.going.asked.in_span c.entry_number.result c.entry_number.ensures.number c.enter.result w c.enter.ensures.went c.in-Entered.is in
-    down_more f v w (g.H.Holder.view c.go_down.new.holder) c.args.page c.args.level c.go_down.result.level _ path.1 refl high c.go_down.ensures.down
+returns-in-Entered-clause-down g t c = down_more (load g t (goal.at.returns-in-Entered-clause-down g t c).After-enter) c.in-Entered.is c.go_down.ensures.down
 
 pub returns-in-Entered-clause-found : goal.returns-in-Entered-clause-found
 returns-in-Entered-clause-found g t c =
     let f = g.F.Format.layout in
-    let v : View = g.H.Holder.view c.args.holder.now in
-    let w : View = g.H.Holder.view c.enter.new.self in
+    let v = g.H.Holder.view c.args.holder.now in
+    let w = g.H.Holder.view c.enter.new.self in
+    let l = load g t (goal.at.returns-in-Entered-clause-found g t c).After-enter in
     match_on (leaf_in c.go_down.result.word) (HasNone f w c.args.page (c.args.level - 1)) (HasNone f v c.args.page c.args.level)
     (λ word. IsFound f w c.args.page c.go_down.result.level word) (λ word. IsFound f v c.args.page c.go_down.result.level word)
-    (none_below f g.met.F.Format.lawful_layout g.H.Holder.tells (g.H.Holder.alone c.args.holder.now) v c.args.page c.args.level
-    c.requires.going c.entry_number.result c.entry_number.ensures.number c.enter.result w c.enter.ensures.went c.in-Entered.is)
-    (λ word h. found_on f v w c.args.page c.go_down.result.level word c.enter.ensures.went.book h) c.go_down.ensures.found
+    (none_below g.met.F.Format.lawful_layout c.requires.going.asked.owns l c.in-Entered.is)
+    (λ word. found_on c.enter.ensures.went.book) c.go_down.ensures.found

@@ -1,6 +1,7 @@
 use Rattle.std.proofs.Common.{◌≡◌, ◌+◌, ◌-◌, ◌*◌, ◌≤◌}
 use Rattle.pt_view.specs.declared.view.View.{View}
-use Rattle.pt_walk.specs.Walks.{IsClear, IsFree, Walked}
+use Rattle.pt_walk.specs.Walks.{IsClear, IsFree}
+use Rattle.pt_view.specs.Loads.{ByLoads}
 use Rattle.pt_view.specs.Views.{Stays}
 use Rattle.pt_walk.proofs.range.+first_below.Given as goal
 
@@ -19,7 +20,7 @@ invariant-first_below-loop-at g l =
       from : l.first ≤ l.at;
       to : l.at ≤ l.end;
       stays : Stays g.H.Holder.space g.H.Holder.aside g.H.Holder.alone l.initial.holder l.holder;
-      walked : Walked g.H.Holder.tells v w;
+      walked : ByLoads g.H.Holder.tells v w;
       path : w.path ≡ v.path;
       free : IsClear f v l.first l.end l.level → IsFree f v l.first l.at;
     }

@@ -1,7 +1,8 @@
-use Rattle.std.proofs.Common.{◌≡◌, ap, ◌∙◌, arith}
+use Rattle.std.proofs.Common.{◌≡◌, ap, arith}
 use Rattle.std.specs.Prelude.{length}
 use Rattle.pt_view.specs.declared.view.View.{View}
-use Rattle.pt_walk.proofs.Climbs.{climbed, length_up, up, up_more}
+use Rattle.pt_view.proofs.Paths.{length_up, up}
+use Rattle.pt_walk.proofs.Climbs.{climbed, up_more}
 use Rattle.pt_view.proofs.Stays.{stays_on}
 use Rattle.pt_walk.proofs.range.climb.Goals as goal
 
@@ -19,7 +20,7 @@ loop-left-preserved g c =
     let e = c.leave.ensures in
     record {
       stays = stays_on i.stays e.stays;
-      left = up_more v (g.H.Holder.view c.loop-left.holder) (g.H.Holder.view c.leave.new.self) c.loop-left._left v.path i.left e.left;
+      left = up_more v c.loop-left._left v.path i.left e.left;
     }
 
 pub returns-clause-left : goal.returns-clause-left

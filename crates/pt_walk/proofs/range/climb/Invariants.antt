@@ -1,6 +1,6 @@
 use Rattle.std.proofs.Common.{◌≡◌}
 use Rattle.pt_view.specs.declared.view.View.{View}
-use Rattle.pt_walk.proofs.Climbs.{up}
+use Rattle.pt_view.proofs.Paths.{up}
 use Rattle.pt_view.specs.Views.{Stays}
 use Rattle.pt_walk.proofs.range.climb.Given as goal
 

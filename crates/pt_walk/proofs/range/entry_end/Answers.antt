@@ -1,7 +1,6 @@
 use Rattle.std.proofs.Common.{◌≡◌, ◌+◌, ◌*◌, ◌/◌, ◌^◌, ◌<◌, min, ap, ◌∙◌, arith}
 use Rattle.pt_model.specs.Layout.{pages_of_entry}
-use Rattle.pt_walk.proofs.Quotients.{pages_few}
-use Rattle.pt_walk.proofs.Ranges.{end_cut}
+use Rattle.pt_walk.proofs.Cuts.{end_cut, pages_few}
 use Rattle.pt_walk.proofs.range.entry_end.Goals as goal
 
 pub returns : goal.returns

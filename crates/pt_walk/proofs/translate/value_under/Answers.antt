@@ -3,7 +3,7 @@ use Rattle.std.specs.Prelude.{bit_and}
 use Rattle.std.proofs.lemmas.Nat.{mod_below, pow_pos}
 use Rattle.pt_model.specs.declared.block.Prot.{Prot}
 use Rattle.pt_format.proofs.LeafPages.{leaf_page}
-use Rattle.pt_walk.proofs.Quotients.{masked}
+use Rattle.pt_walk.proofs.Cuts.{masked}
 use Rattle.pt_walk.proofs.Bytes.{out_bytes, byte_made}
 use Rattle.pt_walk.proofs.translate.value_under.Given.{Over}
 use Rattle.pt_walk.proofs.translate.value_under.Goals as goal

@@ -1,7 +1,7 @@
 use Rattle.std.proofs.Common.{◌≡◌, ◌++◌, [], ◌∷◌, ap, ◌∙◌}
 use Rattle.std.specs.Option.{option_to_list}
 use Rattle.pt_view.specs.declared.view.View.{View}
-use Rattle.pt_walk.proofs.Loads.{walked_left, walked_on}
+use Rattle.pt_view.proofs.Loads.{loads_left, loads_on}
 use Rattle.pt_walk.proofs.Ways.{way_up}
 use Rattle.pt_view.proofs.Stays.{stays_on}
 use Rattle.pt_walk.proofs.way.rise.Goals as goal
@@ -16,7 +16,7 @@ loop-way-preserved g c =
     let items : c.loop-way.way.above.items ≡ c.pop.new.self.items ++ c.in-Some.to ∷ [] = c.pop.ensures.items ∙ ap (λ o. c.pop.new.self.items ++ option_to_list o) c.in-Some.is in
     record {
       stays = stays_on i.stays e.stays;
-      walked = walked_on g.H.Holder.tells u v w i.walked (walked_left g.H.Holder.tells v w e.left);
+      walked = loads_on i.walked (loads_left e.left);
       way = way_up g.F.Format.layout g.H.Holder.tells v w c.loop-way.way c.pop.new.self c.in-Some.to e.left items i.way;
       at = i.at;
       end = i.end;

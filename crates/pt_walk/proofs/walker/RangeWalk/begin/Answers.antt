@@ -7,7 +7,7 @@ use Rattle.pt_model.specs.Layout.{pages_of_table}
 use Rattle.pt_view.specs.declared.view.View.{View}
 use Rattle.pt_walk.specs.Ways.{HasBook}
 use Rattle.pt_walk.proofs.LeftBlocks.{begin_left, left_none}
-use Rattle.pt_walk.proofs.Loads.{root_walked}
+use Rattle.pt_view.proofs.Loads.{root_loads}
 use Rattle.pt_walk.proofs.Ways.{begun, book_here, rest_here, rest_on}
 use Rattle.pt_walk.proofs.walker.RangeWalk.begin.Goals as goal
 
@@ -48,7 +48,7 @@ returns-clause-rest g c = λ blocks rest.
     let f = g.F.Format.layout in
     let v : View = g.H.Holder.view c.args.holder.now in
     let w : View = g.H.Holder.view c.root-level.new.self in
-    rest_on f g.H.Holder.tells v w blocks (root_walked f g.H.Holder.tells (g.H.Holder.alone c.args.holder.now) v c.root-level.result w c.root-level.ensures.rooted) (rest_here f v blocks rest)
+    rest_on f g.H.Holder.tells v w blocks (root_loads c.root-level.ensures.rooted) (rest_here f v blocks rest)
 
 pub returns-clause-nothing : goal.returns-clause-nothing
 returns-clause-nothing g c = λ blocks none. left_none c.args.span.first c.min-end.result blocks (let e = c.min-end.ensures in omega arith)
