@@ -39,7 +39,7 @@ module _ (f : Layout) (page level : ℕ) where
       (entry_first_is ∙ ap (λ x. page / x * x) (entry_is_table f level high))
 
 -- the span has a page under the entry
-entry_meets : (f : Layout) (v : View) (page level : ℕ) → IsInSpan v page →
+pub entry_meets : (f : Layout) (v : View) (page level : ℕ) → IsInSpan v page →
     IsTrue (meets_span v (entry_first f (position_over f page level) (entry_number f level page)) (entry_end f (position_over f page level) (entry_number f level page)))
 entry_meets f v page level h =
     let low = h.0 in let high = h.1 in let a = from_first f page level in let b = to_end f page level in
