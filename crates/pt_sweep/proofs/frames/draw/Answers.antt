@@ -11,8 +11,8 @@ loop-frame-init g c =
     let v : View = g.H.Holder.view c.args.holder.now in
     record {
       stays = stays_here;
-      keeps = keeps_here v;
-      place = place_here v;
+      keeps = keeps_here;
+      place = place_here;
       rest = λ rests. rests;
       most = omega arith;
       purse = ([], refl, refl);
@@ -39,8 +39,8 @@ loop-frame-preserved g c =
     let one = t.one in
     record {
       stays = stays_on i.stays t.stays;
-      keeps = keeps_on u v w i.keeps t.keeps;
-      place = place_on u v w i.place t.place;
+      keeps = keeps_on i.keeps t.keeps;
+      place = place_on i.place t.place;
       rest = λ rests. t.rest (i.rest rests);
       most = (let n = c.if-taken-count.false in omega arith);
       purse = gains_more u.purse v.purse w.purse c.loop-frame.taken won i.purse (gains_one tells frame won v w one t.takes);

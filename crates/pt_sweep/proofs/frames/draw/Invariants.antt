@@ -1,4 +1,4 @@
-use Rattle.std.proofs.Common.{◌≡◌, ℕ, ◌+◌, ◌<◌, ◌≤◌}
+use Rattle.std.proofs.Common.{◌≡◌, ℕ, ◌<◌, ◌≤◌}
 use Rattle.pt_view.specs.declared.view.View.{View}
 use Rattle.pt_view.specs.Lists.{IsIn}
 use Rattle.pt_view.specs.Calls.{FillsSpace, HasEveryFrame}
