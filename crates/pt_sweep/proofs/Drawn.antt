@@ -7,7 +7,7 @@ use Rattle.pt_view.proofs.Members.{in_cases, in_here, in_left, in_more, in_right
 use Rattle.pt_view.proofs.Stays.{book_here, book_on, range_here, range_on}
 use Rattle.pt_view.specs.Lists.{IsIn}
 use Rattle.pt_view.specs.Calls.{Takes}
-use Rattle.pt_sweep.specs.Draws.{FallBelow, Gains, GainsInOrder, IsTriedOnce, KeepsBook, RiseBelow, SamePlace}
+use Rattle.pt_sweep.specs.Draws.{FallBelow, Gains, GainsInOrder, IsTriedOnce, KeepsBook, OnlyTakes, RiseBelow}
 
 -- what a try adds to the purse: its frame, or none
 pub gains_one : (tells : Type 0) (frame k : ℕ) (v w : View) → k ≤ 1 → Takes (k == 1) tells frame v w → Gains v.purse w.purse k
@@ -22,18 +22,26 @@ gains_more old mid new k j a b =
 pub keeps_here : {v : View} → KeepsBook v v
 keeps_here = record { range = range_here; book = book_here; known = λ p. ((λ h. h), (λ h. h)) }
 
-pub keeps_on : {u v w : View} → KeepsBook u v → KeepsBook v w → KeepsBook u w
-keeps_on a b = record {
-  range = range_on a.range b.range;
-  book = book_on a.book b.book;
-  known = λ p. ((λ h. (a.known p).0 ((b.known p).0 h)), (λ h. (b.known p).1 ((a.known p).1 h)));
-}
+module _ {tells : Type 0} where
+  pub only_here : {v : View} → OnlyTakes tells v v
+  only_here = record {
+    keeps = keeps_here;
+    place = record { path = refl; prepared = refl; end = refl };
+    absent = λ told. refl;
+    stores = λ told. refl;
+  }
 
-pub place_here : {v : View} → SamePlace v v
-place_here = record { path = refl; prepared = refl; end = refl }
-
-pub place_on : {u v w : View} → SamePlace u v → SamePlace v w → SamePlace u w
-place_on a b = record { path = b.path ∙ a.path; prepared = b.prepared ∙ a.prepared; end = b.end ∙ a.end }
+  pub only_on : {u v w : View} → OnlyTakes tells u v → OnlyTakes tells v w → OnlyTakes tells u w
+  only_on a b = record {
+    keeps = record {
+      range = range_on a.keeps.range b.keeps.range;
+      book = book_on a.keeps.book b.keeps.book;
+      known = λ p. ((λ h. (a.keeps.known p).0 ((b.keeps.known p).0 h)), (λ h. (b.keeps.known p).1 ((a.keeps.known p).1 h)));
+    };
+    place = record { path = b.place.path ∙ a.place.path; prepared = b.place.prepared ∙ a.place.prepared; end = b.place.end ∙ a.place.end };
+    absent = λ told. b.absent told ∙ a.absent told;
+    stores = λ told. b.stores told ∙ a.stores told;
+  }
 
 -- numbers that fall or rise are all below the bound
 fall_in : (bound x : ℕ) (xs : List ℕ) → FallBelow bound xs → IsIn xs x → x < bound

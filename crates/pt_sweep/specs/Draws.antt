@@ -42,6 +42,13 @@ pub record SamePlace (v w : View) : Type 0 where
   pub prepared : w.prepared ≡ v.prepared
   pub end : w.end ≡ v.end
 
+-- takings change the purse, the frames found not free and what is told of those, and nothing else
+pub record OnlyTakes (tells : Type 0) (v w : View) : Type 0 where
+  pub keeps : KeepsBook v w
+  pub place : SamePlace v w
+  pub absent : tells → w.absent ≡ v.absent
+  pub stores : tells → w.stores ≡ v.stores
+
 -- each frame of a kind was taken, or was found not free and then told; all that were tried are those below `upto`
 pub record Finds (old new : View) (IsTried : ℕ → Type 0) : Type 0 where
   pub got : List ℕ
@@ -53,3 +60,7 @@ pub record Finds (old new : View) (IsTried : ℕ → Type 0) : Type 0 where
   pub within : upto ≤ old.frames
   pub reaches : (frame : ℕ) → IsTried frame → frame < upto
   pub once : IsTriedOnce upto got lost
+
+-- where the draw fell short, each frame was
+abbrev pub FindsAll : (old new : View) → (Short : Type 0) → Type 0
+FindsAll old new Short = Finds old new (λ frame. (frame < old.frames) × Short)

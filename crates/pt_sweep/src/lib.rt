@@ -1,7 +1,7 @@
 //! Changes over a range: the draw of free frames.
 //!
-//! It stands on the trait of holders alone. Each call is proved once, over every holder: it leaves the
-//! holder at rest, and what it says holds whatever other holders do between its steps. No call takes
+//! It stands on the trait of holders alone. The draw is proved once, over every holder: the book and the
+//! path stay as they are, and what it says holds whatever other holders do between its steps. It takes no
 //! memory.
 #![tactic(auto)]
 

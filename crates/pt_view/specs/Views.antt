@@ -4,7 +4,7 @@ use Rattle.pt_model.specs.declared.block.Block.{Block}
 use Rattle.pt_model.specs.Layout.{Layout}
 use Rattle.pt_model.specs.declared.position.Position.{Position}
 use Rattle.pt_model.specs.Tables.{levels_between, starting_top}
-use Rattle.pt_model.specs.Book.{Book}
+use Rattle.pt_model.specs.Book.{Book, IsLawful}
 use Rattle.pt_view.specs.declared.view.View.{View}
 use Rattle.pt_view.specs.Pieces.{all_pieces}
 
@@ -61,6 +61,13 @@ pub record IsAtRest (f : Layout) (v : View) (blocks : List Block) : Type 0 where
 -- the book of a view at rest
 abbrev pub book_of : View → List Block → Book
 book_of v blocks = record { first = v.first; count = v.count; blocks = blocks; tables = v.tables; top = v.top }
+
+-- at rest the book is lawful; and a view at rest is still so
+abbrev pub IsLawfulAtRest : Layout → View → Type 0
+IsLawfulAtRest f v = (blocks : List Block) → IsAtRest f v blocks → IsLawful f v.levels (book_of v blocks)
+
+abbrev pub KeepsRest : Layout → (old new : View) → Type 0
+KeepsRest f old new = (blocks : List Block) → IsAtRest f old blocks → IsAtRest f new blocks
 
 -- the linked positions that a view of the whole space knows: its tables, and the spine up to its top
 abbrev pub linked_of : View → ℕ

@@ -1,14 +1,15 @@
 //! The trait of holders.
 
-ghost use Rattle.std.specs.Prelude.{◌≡◌, ℕ, ◌+◌, ◌<◌, ◌≤◌, List, [], length, None};
+ghost use Rattle.std.specs.Prelude.{◌≡◌, ℕ, ◌+◌, ◌<◌, ◌≤◌, [], length, None};
 ghost use Rattle.pt_model.specs.declared.position.Position.{Position};
 ghost use Rattle.pt_model.specs.Tables.{IsPosition};
 ghost use Rattle.pt_view.specs.declared.view.View.{View};
 ghost use Rattle.pt_model.specs.Layout.{input_pages};
-ghost use Rattle.pt_model.specs.declared.block.Block.{Block};
-ghost use Rattle.pt_model.specs.Book.{IsLawful};
-ghost use Rattle.pt_view.specs.Views.{Aside, Stays, IsAtRest, book_of};
-ghost use Rattle.pt_view.specs.Calls.{MeetsEntry, MayInstall, MayWrite, MayWriteRun, Rooted, Went, IsPlaced, IsUnplaced, IsInstalled, InstallFinds, IsWritten, IsWrittenRun, IsTaken, IsPrepared, HasEveryFrame, FillsSpace, FitsSpace, left};
+ghost use Rattle.pt_view.specs.Views.{Aside, Stays, IsLawfulAtRest};
+ghost use Rattle.pt_view.specs.Calls.{MeetsEntry, Rooted, Went, left};
+ghost use Rattle.pt_view.specs.Calls.{IsPrepared, IsPlaced, IsUnplaced, MayInstall, IsInstalled, InstallFinds};
+ghost use Rattle.pt_view.specs.Calls.{MayWrite, IsWritten, MayWriteRun, IsWrittenRun};
+ghost use Rattle.pt_view.specs.Calls.{IsTaken, HasEveryFrame, FillsSpace, FitsSpace};
 
 use pt_format::Format;
 use pt_num::Span;
@@ -139,5 +140,5 @@ pub trait Holder<F: Format> {
         ensures some { 0 < result.count }
         ensures within { result.first + result.count ≤ input_pages F.layout }
         ensures levels { F.layout.start ≤ (view self.now).levels }
-        ensures lawful { (blocks : List Block) → IsAtRest F.layout (view self.now) blocks → IsLawful F.layout (view self.now).levels (book_of (view self.now) blocks) };
+        ensures lawful { IsLawfulAtRest F.layout (view self.now) };
 }

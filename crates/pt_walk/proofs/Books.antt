@@ -19,7 +19,7 @@ use Rattle.pt_model.specs.Sets.{IsAmong}
 use Rattle.pt_view.specs.Pieces.{IsOneOf, all_pieces, level_of, pieces_of, table_of, words_of, IsUnderPiece}
 use Rattle.pt_view.specs.Views.{IsAtRest, book_of}
 use Rattle.pt_walk.specs.Walks.{HasNowhere, IsFound, IsOwn, OwnsAll}
-use Rattle.pt_walk.specs.Ways.{IsBlockOf}
+use Rattle.pt_walk.specs.RangeWalks.{IsBlockOf}
 use Rattle.pt_model.proofs.Quotients.{size_split}
 use Rattle.pt_model.proofs.Positions.{among_first, among_more}
 use Rattle.pt_view.proofs.Members.{in_blocks, mapped_one, one_of_left, one_of_right, piece_at}

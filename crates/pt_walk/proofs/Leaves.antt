@@ -8,7 +8,7 @@ use Rattle.pt_model.specs.declared.block.Prot.{Prot}
 use Rattle.pt_model.specs.Layout.{Layout, output_pages, pages_of_entry}
 use Rattle.pt_format.specs.Laws.{IsLayout, WordsDiffer}
 use Rattle.pt_format.specs.Words.{IsLeaf}
-use Rattle.pt_walk.specs.Ways.{IsBlockOf}
+use Rattle.pt_walk.specs.RangeWalks.{IsBlockOf}
 use Rattle.pt_model.proofs.Quotients.{multiple_under, size_split, whole}
 
 module _ (f : Layout) (good : IsLayout f) (differ : WordsDiffer f) (level word page : ℕ) (b : Block) (is : IsBlockOf f level word page b) where

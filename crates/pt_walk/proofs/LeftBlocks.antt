@@ -14,7 +14,7 @@ use Rattle.pt_view.specs.Pieces.{IsOneOf, all_pieces, pieces_of, IsUnderPiece}
 use Rattle.pt_view.proofs.Members.{one_of_left, one_of_right}
 use Rattle.pt_view.specs.Views.{IsAtRest, book_of}
 use Rattle.pt_walk.specs.Walks.{IsFree}
-use Rattle.pt_walk.specs.Ways.{Comes, HasNext, is_left, rested}
+use Rattle.pt_walk.specs.RangeWalks.{Comes, HasNext, is_left, rested}
 use Rattle.pt_walk.proofs.Cuts.{pages_few}
 use Rattle.pt_walk.proofs.Books.{piece_over}
 

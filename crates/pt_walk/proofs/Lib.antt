@@ -1,11 +1,14 @@
--- Facts for other crates: numbers as the code makes them, the way down to a page, ranges of pages under a table.
+-- Facts for other crates: numbers as the code makes them, what a load tells of the pieces over a page, ranges of pages
+-- under a table, and what the book of a view at rest says.
 pub mod Cuts
 pub mod Descent
 pub mod Ranges
-mod Climbs
 pub mod Books
+-- paths that lose nodes; addresses, and words of blocks
+mod Climbs
 mod Bytes
 mod Leaves
+-- the walk over a range: the blocks that are left, the tables where it stands, its steps
 mod LeftBlocks
-mod WayTables
-mod Ways
+mod WalkTables
+mod WalkSteps

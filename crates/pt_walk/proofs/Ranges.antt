@@ -1,6 +1,6 @@
 -- Ranges of pages under the path's last table: the pages of one entry, and the pieces that have one of them.
 use Rattle.std.proofs.Common.{◌≡◌, ◌⊎◌, ⊎_elim, ℕ, ◌+◌, ◌-◌, ◌*◌, ◌/◌, ◌%◌, ◌^◌, ◌<◌, ◌≤◌, List, [], ◌∷◌, ◌++◌, inl, inr, refl, ap, sym, ◌∙◌, subst, arith, append_assoc}
-use Rattle.std.specs.Prelude.{IsTrue, Option, Some, None, MatchOption, is_some, true, false}
+use Rattle.std.specs.Prelude.{IsTrue, Option, Some, None, is_some, true, false}
 use Rattle.std.proofs.lemmas.List.{append-nil}
 use Rattle.std.proofs.lemmas.Bool.{cases_lt}
 use mathlib.Core.Logic.{dite}
@@ -22,7 +22,7 @@ use Rattle.pt_view.specs.Loads.{IsInSpan, IsOver}
 use Rattle.pt_view.specs.Calls.{MeetsEntry, Went, lowest, pieces_at}
 use Rattle.pt_view.proofs.Entries.{may_enter, over_page}
 use Rattle.pt_view.proofs.Loads.{IsLoad, load_leaf, load_none, table_high, table_over, table_path}
-use Rattle.pt_walk.specs.Walks.{IsClear, IsFree, IsGoing, IsLowest, IsOverRange, OwnsAll, OwnsOver, StopsAt, WentDown, mapped, nothing}
+use Rattle.pt_walk.specs.Walks.{FindsLowest, IsClear, IsFree, IsGoing, IsLowest, IsOverRange, OwnsAll, OwnsOver, StopsAt, WentDown, mapped, nothing}
 use Rattle.pt_walk.proofs.Descent.{empty_none, entered_none, leaf_found, match_on}
 
 -- Ranges.
@@ -137,10 +137,7 @@ clear_on f first end level b clear = λ page low high x member has. clear page l
 pub clear_from : (f : Layout) (v : View) (first end at to level : ℕ) → IsClear f v first end level → first ≤ at → to ≤ end → IsClear f v at to level
 clear_from f v first end at to level clear low high = λ page a b. clear page (omega arith) (omega arith)
 
-abbrev pub Lowest : Layout → View → (first end : ℕ) → Option ℕ → Type 0
-Lowest f v first end o = MatchOption o (IsFree f v first end) (λ page. IsLowest f v first end page)
-
-pub answer_on : (f : Layout) {v w : View} (first end : ℕ) (o : Option ℕ) → SameBook v w → Lowest f w first end o → Lowest f v first end o
+pub answer_on : (f : Layout) {v w : View} (first end : ℕ) (o : Option ℕ) → SameBook v w → FindsLowest f w first end o → FindsLowest f v first end o
 answer_on f {v} {w} first end o b = match_on o (IsFree f w first end) (IsFree f v first end) (IsLowest f w first end) (IsLowest f v first end) (free_on f first end b) (λ page. lowest_on b)
 
 -- the pages from one to another, and from there on
@@ -164,11 +161,11 @@ clear_root f v first end level owns top = λ page low high x member has. let o =
 
 -- A range is gone through: the pages before `at` are free, and those from there to before `to` were looked at.
 module _ (f : Layout) {v w : View} (first end at to : ℕ) (book : SameBook v w) (low : first ≤ at) (high : to ≤ end) (before : IsFree f v first at) where
-  pub found_more : (o : Option ℕ) → is_some o ≡ true → Lowest f w at to o → Lowest f v first end o
+  pub found_more : (o : Option ℕ) → is_some o ≡ true → FindsLowest f w at to o → FindsLowest f v first end o
   found_more None some h = absurd (let z : ⊥ = cc in z)
   found_more (Some page) some h = lowest_more first end low high before (lowest_on book h)
 
-  pub none_more : (o : Option ℕ) → is_some o ≡ false → Lowest f w at to o → IsFree f v first to
+  pub none_more : (o : Option ℕ) → is_some o ≡ false → FindsLowest f w at to o → IsFree f v first to
   none_more None none h = free_more f v first at to before (free_on f at to book h)
   none_more (Some page) none h = absurd (let z : ⊥ = cc in z)
 

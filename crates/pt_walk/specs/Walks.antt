@@ -1,17 +1,19 @@
 -- The way down to a page, and what a range's pages are mapped to.
-use Rattle.std.specs.Prelude.{◌≡◌, ◌⊎◌, ℕ, ◌+◌, ◌-◌, ◌*◌, ◌/◌, ◌%◌, ◌^◌, ◌<◌, ◌≤◌, ◌==◌, List, [], ◌∷◌, ◌++◌, length, Option, None, Some, IsTrue, if◌then◌else◌, ⊤}
+use Rattle.std.specs.Prelude.{◌≡◌, ◌⊎◌, ℕ, ◌+◌, ◌-◌, ◌*◌, ◌/◌, ◌%◌, ◌^◌, ◌<◌, ◌≤◌, ◌==◌, List, [], ◌∷◌, ◌++◌, length, Option, None, Some, MatchOption, IsTrue, if◌then◌else◌, ⊤}
 use Rattle.pt_model.specs.declared.block.Prot.{Prot}
 use Rattle.pt_model.specs.Layout.{Layout, IsLegalBlock, end_of, input_pages, pages_of_entry, pages_of_table}
 use Rattle.pt_model.specs.Tables.{end_of_table, is_spine, position_over, spine_position}
 use Rattle.pt_model.specs.declared.block.Block.{Block}
 use Rattle.pt_model.specs.Pages.{page_at}
+use Rattle.pt_model.specs.Book.{translation}
 use Rattle.pt_format.specs.Words.{IsUnder, MayBeLeaf}
 use Rattle.pt_view.specs.declared.view.View.{View}
+use Rattle.pt_walk.specs.declared.path.Leaf.{Leaf}
 use Rattle.pt_view.specs.declared.view.Node.{Node}
 use Rattle.pt_view.specs.declared.view.Piece.{Piece}
 use Rattle.pt_model.specs.Sets.{IsAmong}
 use Rattle.pt_view.specs.Pieces.{IsOneOf, IsUnderPiece, entry_number, level_of, table_of, word_of, words_of}
-use Rattle.pt_view.specs.Views.{IsAtRest}
+use Rattle.pt_view.specs.Views.{IsAtRest, book_of}
 use Rattle.pt_view.specs.Loads.{IsInSpan, IsOver}
 use Rattle.pt_view.specs.Calls.{IsVacant, pieces_at}
 
@@ -68,15 +70,33 @@ pub record IsFound (f : Layout) (v : View) (page level word : ℕ) : Type 0 wher
 abbrev pub leaf_in : (word : ℕ) → Option ℕ
 leaf_in word = if word == 0 then None else Some word
 
+-- what the way down to a page found: the word in the table of a level, where it isn't zero
+abbrev pub FindsBelow : Layout → View → (page level lower word : ℕ) → Type 0
+FindsBelow f v page level lower word = MatchOption (leaf_in word) (HasNone f v page level) (λ word. IsFound f v page lower word)
+
+abbrev pub FindsOver : Layout → View → (page : ℕ) → Option Leaf → Type 0
+FindsOver f v page found = MatchOption found (HasNowhere f v page) (λ leaf. IsFound f v page leaf.level leaf.word)
+
+-- the path without so many last nodes is all that changed
+abbrev pub Climbs : View → (tables : ℕ) → View → Type 0
+Climbs v tables w = (front nodes : List Node) → v.path ≡ front ++ nodes → length nodes ≡ tables → w ≡ record v { path = front }
+
 -- the page of an address, where it is one of these
 abbrev pub IsPageIn : Layout → (first count address page : ℕ) → Type 0
 IsPageIn f first count address page = (page_at f address ≡ Some page) × (first ≤ page) × (page < first + count)
+
+abbrev pub FindsPage : Layout → (first count address : ℕ) → Option ℕ → Type 0
+FindsPage f first count address found = MatchOption found ((page : ℕ) → ¬ IsPageIn f first count address page) (λ page. IsPageIn f first count address page)
 
 -- what a leaf translates an address to, at a page under it
 abbrev pub MapsTo : Layout → (level word page address : ℕ) → ℕ × Prot → Type 0
 MapsTo f level word page address to =
     (first log2 out part : ℕ) (prot : Prot) → MayBeLeaf f level log2 out prot part → word ≡ f.leaf level log2 out prot part →
     IsUnder f level log2 first part page → to ≡ ((out + (page - first)) * 2 ^ f.granule + address % 2 ^ f.granule, prot)
+
+-- what the book of a view at rest translates an address to
+abbrev pub IsTranslation : Layout → View → (address : ℕ) → Option (ℕ × Prot) → Type 0
+IsTranslation f v address to = (blocks : List Block) → IsAtRest f v blocks → to ≡ translation f (book_of v blocks) address
 
 -- the holder is at rest, whatever its blocks are
 abbrev pub Rests : Layout → View → Type 0
@@ -100,6 +120,10 @@ abbrev pub IsClear : Layout → View → (first end level : ℕ) → Type 0
 IsClear f v first end level =
     (page : ℕ) → first ≤ page → page < end → (x : Piece) → IsOneOf v.pieces x → IsUnderPiece f x page → level_of f x ≤ level
 
+-- what is clear of pieces of higher levels is so a table further down
+abbrev pub StaysClear : Layout → (v w : View) → (first end level lower : ℕ) → Type 0
+StaysClear f v w first end level lower = OwnsAll f v → IsClear f v first end level → IsClear f w first end lower
+
 -- no piece has a page of a range
 abbrev pub IsFree : Layout → View → (first end : ℕ) → Type 0
 IsFree f v first end = (page : ℕ) → first ≤ page → page < end → HasNowhere f v page
@@ -112,6 +136,10 @@ pub record IsLowest (f : Layout) (v : View) (first end page : ℕ) : Type 0 wher
   pub own : IsOneOf v.pieces piece
   pub has_page : IsUnderPiece f piece page
   pub free : IsFree f v first page
+
+-- what the look at a range found: nothing, or the lowest mapped page
+abbrev pub FindsLowest : Layout → View → (first end : ℕ) → Option ℕ → Type 0
+FindsLowest f v first end found = MatchOption found (IsFree f v first end) (λ page. IsLowest f v first end page)
 
 -- the nodes are the tables over a page, each a level lower than the one before, the first one below `level`
 abbrev pub IsWayDown : Layout → (page level : ℕ) → List Node → Type 0

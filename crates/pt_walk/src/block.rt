@@ -4,7 +4,7 @@ ghost use Rattle.std.specs.Prelude.{◌≡◌, ℕ, ◌<◌, ◌≤◌, ◌^◌}
 ghost use Rattle.pt_model.specs.declared.block.Block.{Block};
 ghost use Rattle.pt_model.specs.Layout as layout;
 ghost use Rattle.pt_model.specs.Layout.{input_pages};
-ghost use Rattle.pt_walk.specs.Ways.{IsBlockOf};
+ghost use Rattle.pt_walk.specs.RangeWalks.{IsBlockOf};
 
 use pt_format::{Block, Format, Read};
 use pt_num::align_down;

@@ -1,9 +1,12 @@
 //! Walks over a holder: what its book says of a page, and of the pages of a range, by loads alone.
 //!
 //! It stands on the trait of holders and on that of formats. Each call is proved once, over every
-//! holder: it answers by the book, whatever other holders do between its steps, and leaves the holder
-//! at rest with its book and its purse as before; a walk over a range does so at its end. It may come to
-//! know of more linked positions. No call takes memory.
+//! holder: it answers by the book, whatever other holders do between its steps, and leaves the book and
+//! the purse as before. The holder may come to know of more linked positions. No call takes memory.
+//!
+//! A holder at rest is at rest again after `lookup`, `next_block` and `first_mapped`, and at the end of a
+//! walk over a range. `descend` and `climb` move along the tables over a range, and `first_below` and
+//! `first_at` look at it from the one where the holder stands, and come back to that.
 #![tactic(auto)]
 
 mod block;

@@ -1,8 +1,8 @@
 //! The way down to the leaf over a page, and back.
 
 ghost use Rattle.pt_view.specs.Views.{Stays};
-ghost use Rattle.std.specs.Prelude.{◌≡◌, MatchOption, []};
-ghost use Rattle.pt_walk.specs.Walks.{leaf_in, IsAsked, IsGoing, HasNone, HasNowhere, IsFound, WentDown};
+ghost use Rattle.std.specs.Prelude.{◌≡◌, []};
+ghost use Rattle.pt_walk.specs.Walks.{FindsBelow, FindsOver, IsAsked, IsGoing, WentDown};
 ghost use Rattle.pt_view.specs.Loads.{ByLoads};
 
 use crate::climb;
@@ -31,7 +31,7 @@ fn go_down<F: Format, H: Holder<F>>(holder: &mut H, page: u64, level: u32) -> Lo
     ensures stays { Stays H.space H.aside H.alone holder.old holder.new }
     ensures walked { ByLoads H.tells (H.view holder.old) (H.view holder.new) }
     ensures down { WentDown F.layout (H.view holder.old) (H.view holder.new) page level result.level }
-    ensures found { MatchOption (leaf_in result.word) (HasNone F.layout (H.view holder.old) page level) (λ word. IsFound F.layout (H.view holder.old) page result.level word) }
+    ensures found { FindsBelow F.layout (H.view holder.old) page level result.level result.word }
 {
     match holder.enter(entry_number::<F>(level, page)) {
         Seen::Empty => Lowest { level, word: 0 },
@@ -47,7 +47,7 @@ pub(crate) fn leaf_over<F: Format, H: Holder<F>>(holder: &mut H, page: u64) -> O
     ensures stays { Stays H.space H.aside H.alone holder.old holder.new }
     ensures walked { ByLoads H.tells (H.view holder.old) (H.view holder.new) }
     ensures rest { (H.view holder.new).path ≡ [] }
-    ensures found { MatchOption result (HasNowhere F.layout (H.view holder.old) page) (λ leaf. IsFound F.layout (H.view holder.old) page leaf.level leaf.word) }
+    ensures found { FindsOver F.layout (H.view holder.old) page result }
 {
     let level = holder.root();
     if !is_under_spine::<F>(level, page) {

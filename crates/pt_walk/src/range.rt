@@ -1,10 +1,9 @@
 //! Ranges of pages: the table over a whole range, and the lowest mapped page of it.
 
 ghost use Rattle.pt_view.specs.Views.{Stays};
-ghost use Rattle.std.specs.Prelude.{◌≡◌, ◌+◌, ◌-◌, ◌*◌, ◌/◌, ◌^◌, ◌<◌, ◌≤◌, ◌↔◌, IsTrue, MatchOption, min, length, List, [], ◌++◌};
+ghost use Rattle.std.specs.Prelude.{◌≡◌, ◌+◌, ◌*◌, ◌/◌, ◌^◌, ◌≤◌, ◌<◌, ◌↔◌, IsTrue, min, length};
 ghost use Rattle.pt_model.specs.Layout.{input_pages, pages_of_entry};
-ghost use Rattle.pt_view.specs.declared.view.Node.{Node};
-ghost use Rattle.pt_walk.specs.Walks.{IsClear, IsOverRange, IsFree, IsLowest, OwnsAll, OwnsOver, StopsAt, WentDown};
+ghost use Rattle.pt_walk.specs.Walks.{Climbs, FindsLowest, IsClear, IsOverRange, OwnsAll, OwnsOver, StaysClear, StopsAt, WentDown};
 ghost use Rattle.pt_view.specs.Loads.{ByLoads};
 
 use crate::numbers::{entry_bits, entry_number};
@@ -40,8 +39,9 @@ fn lies_under<F: Format>(level: u32, lowest: u32, first: u64, end: u64, whole: b
 }
 
 /// Goes down, from the path's last table, of this level, while the range lies under one of its entries,
-/// that names a table, and the level is all_but_last `lowest`. Answers the level of the table where it ends. Where the
-/// caller knows that the range is `whole`, under one entry of a table of level `lowest`, that isn't tested.
+/// that names a table, and the level is above `lowest`. Answers the level of the table where it ends; it ends
+/// nowhere else. Where the caller knows that the range is `whole`, under one entry of a table of level
+/// `lowest`, that isn't tested.
 pub fn descend<F: Format, H: Holder<F>>(
     holder: &mut H,
     level: u32,
@@ -60,7 +60,7 @@ pub fn descend<F: Format, H: Holder<F>>(
     ensures lowest { lowest ≤ result }
     ensures stops { StopsAt F.layout (H.view holder.new) first end lowest result }
     ensures owned { H.alone holder.old → OwnsOver F.layout (H.view holder.old) first result level }
-    ensures clear { OwnsAll F.layout (H.view holder.old) → IsClear F.layout (H.view holder.old) first end level → IsClear F.layout (H.view holder.new) first end result }
+    ensures clear { StaysClear F.layout (H.view holder.old) (H.view holder.new) first end level result }
 {
     if level > lowest && lies_under::<F>(level, lowest, first, end, whole) {
         match holder.enter(entry_number::<F>(level, first)) {
@@ -76,7 +76,7 @@ pub fn descend<F: Format, H: Holder<F>>(
 pub fn climb<F: Format, H: Holder<F>>(holder: &mut H, tables: u32)
     requires { tables ≤ length (H.view holder.old).path }
     ensures stays { Stays H.space H.aside H.alone holder.old holder.new }
-    ensures left { (front nodes : List Node) → (H.view holder.old).path ≡ front ++ nodes → length nodes ≡ tables → H.view holder.new ≡ record (H.view holder.old) { path = front } }
+    ensures left { Climbs (H.view holder.old) tables (H.view holder.new) }
 {
     for _left in 0..tables {
         holder.leave();
@@ -97,7 +97,7 @@ pub fn first_below<F: Format, H: Holder<F>>(
     ensures stays { Stays H.space H.aside H.alone holder.old holder.new }
     ensures walked { ByLoads H.tells (H.view holder.old) (H.view holder.new) }
     ensures path { (H.view holder.new).path ≡ (H.view holder.old).path }
-    ensures lowest { IsClear F.layout (H.view holder.old) first end level → MatchOption result (IsFree F.layout (H.view holder.old) first end) (λ page. IsLowest F.layout (H.view holder.old) first end page) }
+    ensures lowest { IsClear F.layout (H.view holder.old) first end level → FindsLowest F.layout (H.view holder.old) first end result }
 {
     let mut at = first;
     while at < end {
@@ -127,7 +127,7 @@ pub fn first_at<F: Format, H: Holder<F>>(
     ensures stays { Stays H.space H.aside H.alone holder.old holder.new }
     ensures walked { ByLoads H.tells (H.view holder.old) (H.view holder.new) }
     ensures path { (H.view holder.new).path ≡ (H.view holder.old).path }
-    ensures lowest { IsClear F.layout (H.view holder.old) first end level → MatchOption result (IsFree F.layout (H.view holder.old) first end) (λ page. IsLowest F.layout (H.view holder.old) first end page) }
+    ensures lowest { IsClear F.layout (H.view holder.old) first end level → FindsLowest F.layout (H.view holder.old) first end result }
 {
     match holder.enter(entry_number::<F>(level, first)) {
         Seen::Empty => None,

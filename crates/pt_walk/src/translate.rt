@@ -1,13 +1,13 @@
 //! What a book says of an address.
 
-ghost use Rattle.std.specs.Prelude.{◌≡◌, ◌↔◌, ℕ, ◌+◌, ◌<◌, ◌≤◌, List, IfOk, IsErr, IsTrue, MatchOption};
+ghost use Rattle.std.specs.Prelude.{◌≡◌, ◌↔◌, ℕ, ◌+◌, ◌<◌, ◌≤◌, List, IfOk, IsErr, IsTrue};
 ghost use Rattle.pt_model.specs.declared.block.Block.{Block};
 ghost use Rattle.pt_model.specs.declared.block.Prot.{Prot};
 ghost use Rattle.pt_model.specs.Layout.{input_pages};
-ghost use Rattle.pt_model.specs.Book.{is_outside, translation};
+ghost use Rattle.pt_model.specs.Book.{is_outside};
 ghost use Rattle.pt_format.specs.Words.{IsLeaf};
-ghost use Rattle.pt_view.specs.Views.{Stays, IsAtRest, book_of};
-ghost use Rattle.pt_walk.specs.Walks.{IsPageIn, MapsTo, Rests};
+ghost use Rattle.pt_view.specs.Views.{KeepsRest, Stays, book_of};
+ghost use Rattle.pt_walk.specs.Walks.{FindsPage, IsTranslation, MapsTo, Rests};
 ghost use Rattle.pt_view.specs.Loads.{ByLoads};
 
 use crate::path::{Leaf, leaf_over};
@@ -21,7 +21,7 @@ pub struct OutsideLease;
 /// The page of an address, where it is one of a span.
 fn page_in<F: Format>(span: Span, address: u64) -> Option<u64>
     requires { span.first + span.count ≤ input_pages F.layout }
-    ensures { MatchOption result ((page : ℕ) → ¬ IsPageIn F.layout span.first span.count address page) (λ page. IsPageIn F.layout span.first span.count address page) }
+    ensures { FindsPage F.layout span.first span.count address result }
 {
     let page = page_of::<F>(address)?;
     if page >= span.first && page - span.first < span.count {
@@ -56,9 +56,9 @@ pub fn lookup<F: Format, H: Holder<F>>(
     requires rest { Rests F.layout (H.view holder.old) }
     ensures stays { Stays H.space H.aside H.alone holder.old holder.new }
     ensures walked { ByLoads H.tells (H.view holder.old) (H.view holder.new) }
-    ensures rest { (blocks : List Block) → IsAtRest F.layout (H.view holder.old) blocks → IsAtRest F.layout (H.view holder.new) blocks }
+    ensures rest { KeepsRest F.layout (H.view holder.old) (H.view holder.new) }
     ensures outside { (blocks : List Block) → IsErr result ↔ IsTrue (is_outside F.layout (book_of (H.view holder.old) blocks) address) }
-    ensures found { IfOk result (λ to. (blocks : List Block) → IsAtRest F.layout (H.view holder.old) blocks → to ≡ translation F.layout (book_of (H.view holder.old) blocks) address) }
+    ensures found { IfOk result (λ to. IsTranslation F.layout (H.view holder.old) address to) }
 {
     let Some(page) = page_in::<F>(holder.range(), address) else {
         return Err(OutsideLease)

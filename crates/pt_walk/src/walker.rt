@@ -1,12 +1,11 @@
 //! The walk over a range: the blocks that meet it, in order.
 
-ghost use Rattle.std.specs.Prelude.{◌≡◌, ℕ, ◌+◌, ◌<◌, ◌≤◌, List, [], filter, find, None};
+ghost use Rattle.std.specs.Prelude.{◌≡◌, ℕ, ◌+◌, ◌<◌, ◌≤◌, List, [], None};
 ghost use Rattle.pt_model.specs.declared.block.Block.{Block};
-ghost use Rattle.pt_model.specs.Book.{lowest_mapped, meets};
-ghost use Rattle.pt_view.specs.Views.{Stays, IsAtRest, book_of};
+ghost use Rattle.pt_view.specs.Views.{KeepsRest, Stays};
 ghost use Rattle.pt_walk.specs.Walks.{Rests};
 ghost use Rattle.pt_view.specs.Loads.{ByLoads};
-ghost use Rattle.pt_walk.specs.Ways.{HasNext, HasSpan, IsWalking, left_of, rested};
+ghost use Rattle.pt_walk.specs.RangeWalks.{BeginsWith, GivesNext, HasSpan, IsFirstBlock, IsFirstMapped, IsWalking, left_of, rested};
 
 use crate::climb;
 use crate::numbers::spine_end;
@@ -43,8 +42,8 @@ impl<F: Format> RangeWalk<F> {
         ensures stays { Stays H.space H.aside H.alone holder.old holder.new }
         ensures walked { ByLoads H.tells (H.view holder.old) (H.view holder.new) }
         ensures walking { IsWalking F.layout (H.view holder.new) result }
-        ensures rest { (blocks : List Block) → IsAtRest F.layout (H.view holder.old) blocks → IsAtRest F.layout (rested (H.view holder.new)) blocks }
-        ensures left { (blocks : List Block) → IsAtRest F.layout (H.view holder.old) blocks → 0 < span.count → left_of result blocks ≡ filter (meets span.first (span.first + span.count)) blocks }
+        ensures rest { KeepsRest F.layout (H.view holder.old) (rested (H.view holder.new)) }
+        ensures left { BeginsWith F.layout (H.view holder.old) span.first span.count result }
         ensures nothing { (blocks : List Block) → span.count ≡ 0 → left_of result blocks ≡ [] }
     {
         // what the range says of a book at rest is what the walk stands on
@@ -70,8 +69,8 @@ impl<F: Format> RangeWalk<F> {
         ensures stays { Stays H.space H.aside H.alone holder.old holder.new }
         ensures walked { ByLoads H.tells (H.view holder.old) (H.view holder.new) }
         ensures walking { IsWalking F.layout (H.view holder.new) self.new }
-        ensures rest { (blocks : List Block) → IsAtRest F.layout (rested (H.view holder.old)) blocks → IsAtRest F.layout (rested (H.view holder.new)) blocks }
-        ensures comes { (blocks : List Block) → IsAtRest F.layout (rested (H.view holder.old)) blocks → HasNext result (left_of self.old blocks) (left_of self.new blocks) }
+        ensures rest { KeepsRest F.layout (rested (H.view holder.old)) (rested (H.view holder.new)) }
+        ensures comes { GivesNext F.layout (H.view holder.old) result self.old self.new }
     {
         next::<F, H>(&mut self.way, holder)
     }
@@ -92,8 +91,8 @@ pub fn next_block<F: Format, H: Holder<F>>(holder: &mut H, span: Span) -> Option
     requires span { HasSpan (H.view holder.old) span.first span.count }
     ensures stays { Stays H.space H.aside H.alone holder.old holder.new }
     ensures walked { ByLoads H.tells (H.view holder.old) (H.view holder.new) }
-    ensures rest { (blocks : List Block) → IsAtRest F.layout (H.view holder.old) blocks → IsAtRest F.layout (H.view holder.new) blocks }
-    ensures found { (blocks : List Block) → IsAtRest F.layout (H.view holder.old) blocks → 0 < span.count → result ≡ find (meets span.first (span.first + span.count)) blocks }
+    ensures rest { KeepsRest F.layout (H.view holder.old) (H.view holder.new) }
+    ensures found { IsFirstBlock F.layout (H.view holder.old) span.first span.count result }
     ensures nothing { span.count ≡ 0 → result ≡ None }
 {
     let mut walk = RangeWalk::<F>::begin::<H>(holder, span);
@@ -108,8 +107,8 @@ pub fn first_mapped<F: Format, H: Holder<F>>(holder: &mut H, span: Span) -> Opti
     requires span { HasSpan (H.view holder.old) span.first span.count }
     ensures stays { Stays H.space H.aside H.alone holder.old holder.new }
     ensures walked { ByLoads H.tells (H.view holder.old) (H.view holder.new) }
-    ensures rest { (blocks : List Block) → IsAtRest F.layout (H.view holder.old) blocks → IsAtRest F.layout (H.view holder.new) blocks }
-    ensures found { (blocks : List Block) → IsAtRest F.layout (H.view holder.old) blocks → 0 < span.count → result ≡ lowest_mapped (book_of (H.view holder.old) blocks) span.first (span.first + span.count) }
+    ensures rest { KeepsRest F.layout (H.view holder.old) (H.view holder.new) }
+    ensures found { IsFirstMapped F.layout (H.view holder.old) span.first span.count result }
     ensures nothing { span.count ≡ 0 → result ≡ None }
 {
     let block = next_block::<F, H>(holder, span)?;

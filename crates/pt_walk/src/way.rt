@@ -1,10 +1,9 @@
 //! The way of a walk over a range: the tables that it stands in, and the pages that are left.
 
-ghost use Rattle.std.specs.Prelude.{◌≡◌, ℕ, ◌+◌, ◌-◌, ◌*◌, ◌<◌, ◌≤◌, List, length};
-ghost use Rattle.pt_model.specs.declared.block.Block.{Block};
-ghost use Rattle.pt_view.specs.Views.{Stays, IsAtRest};
+ghost use Rattle.std.specs.Prelude.{◌≡◌, ℕ, ◌+◌, ◌-◌, ◌*◌, ◌<◌, ◌≤◌, length};
+ghost use Rattle.pt_view.specs.Views.{Stays};
 ghost use Rattle.pt_view.specs.Loads.{ByLoads};
-ghost use Rattle.pt_walk.specs.Ways.{IsOnWay, IsWalking, Comes, HasNext, rested, left_of, work_of};
+ghost use Rattle.pt_walk.specs.RangeWalks.{GivesNext, GivesStep, IsOnWay, IsWalking, work_of};
 
 use crate::block::{block_of, end_of};
 use crate::numbers::entry_number;
@@ -53,7 +52,7 @@ fn step<F: Format, H: Holder<F>>(way: &mut Way, holder: &mut H) -> Option<Block>
     ensures way { IsWalking F.layout (H.view holder.new) way.new }
     ensures end { way.new.end ≡ way.old.end }
     ensures less { work_of way.new < work_of way.old }
-    ensures comes { (blocks : List Block) → IsAtRest F.layout (rested (H.view holder.old)) blocks → Comes result (left_of way.old blocks) (left_of way.new blocks) }
+    ensures comes { GivesStep F.layout (H.view holder.old) result way.old way.new }
 {
     let level = way.level;
     let at = way.at;
@@ -85,7 +84,7 @@ pub(crate) fn next<F: Format, H: Holder<F>>(way: &mut Way, holder: &mut H) -> Op
     ensures stays { Stays H.space H.aside H.alone holder.old holder.new }
     ensures walked { ByLoads H.tells (H.view holder.old) (H.view holder.new) }
     ensures way { IsWalking F.layout (H.view holder.new) way.new }
-    ensures comes { (blocks : List Block) → IsAtRest F.layout (rested (H.view holder.old)) blocks → HasNext result (left_of way.old blocks) (left_of way.new blocks) }
+    ensures comes { GivesNext F.layout (H.view holder.old) result way.old way.new }
 {
     while way.at < way.end {
         let found = step::<F, H>(way, holder);

@@ -1,8 +1,8 @@
-use Rattle.std.proofs.Common.{inl, inr, [], ◌∙◌, refl, arith}
+use Rattle.std.proofs.Common.{inl, inr, [], refl, arith}
 use mathlib.Core.Logic.{dite}
 use native.Mathlib.Decide.{ℕ_discrete}
 use Rattle.pt_view.specs.declared.view.View.{View}
-use Rattle.pt_sweep.proofs.Drawn.{fall_wider, gains_one, gains_more, keeps_here, keeps_on, place_here, place_on, order_more, told_none, told_more}
+use Rattle.pt_sweep.proofs.Drawn.{fall_wider, gains_one, gains_more, only_here, only_on, order_more, told_none, told_more}
 use Rattle.pt_view.proofs.Stays.{stays_here, stays_on}
 use Rattle.pt_sweep.proofs.frames.draw.Goals as goal
 
@@ -11,15 +11,12 @@ loop-frame-init g c =
     let v : View = g.H.Holder.view c.args.holder.now in
     record {
       stays = stays_here;
-      keeps = keeps_here;
-      place = place_here;
+      only = only_here;
       rest = λ rests. rests;
       most = omega arith;
       purse = ([], refl, refl);
       order = ([], refl, tt);
       busy = λ x h. h;
-      absent = λ told. refl;
-      stores = λ told. refl;
       every = λ x less. absurd (omega arith);
       told = λ told. told_none v;
       all = λ a some. absurd (omega arith);
@@ -39,15 +36,12 @@ loop-frame-preserved g c =
     let one = t.one in
     record {
       stays = stays_on i.stays t.stays;
-      keeps = keeps_on i.keeps t.keeps;
-      place = place_on i.place t.place;
+      only = only_on i.only t.only;
       rest = λ rests. t.rest (i.rest rests);
       most = (let n = c.if-taken-count.false in omega arith);
       purse = gains_more u.purse v.purse w.purse c.loop-frame.taken won i.purse (gains_one tells frame won v w one t.takes);
       order = order_more tells frame won u v w one t.takes i.order;
       busy = λ x h. (t.busy x).1 (inr (i.busy x h));
-      absent = λ told. t.absent told ∙ i.absent told;
-      stores = λ told. t.stores told ∙ i.stores told;
       every = λ x less. (t.busy x).1 (dite (ℕ_discrete x c.loop-frame.frame) (λ e. inl e) (λ ne. inr (i.every x (omega arith))));
       told = λ told. told_more tells frame won u v w one t.takes told (i.told told);
       all = λ a some every. t.all (i.stays.still_alone a) every;

@@ -1,9 +1,9 @@
-use Rattle.std.proofs.Common.{◌≡◌, ℕ, ◌<◌, ◌≤◌}
+use Rattle.std.proofs.Common.{ℕ, ◌<◌, ◌≤◌}
 use Rattle.pt_view.specs.declared.view.View.{View}
 use Rattle.pt_view.specs.Lists.{IsIn}
 use Rattle.pt_view.specs.Calls.{FillsSpace, HasEveryFrame}
 use Rattle.pt_walk.specs.Walks.{Rests}
-use Rattle.pt_sweep.specs.Draws.{Gains, GainsInOrder, KeepsBook, SamePlace}
+use Rattle.pt_sweep.specs.Draws.{Gains, GainsInOrder, OnlyTakes}
 use Rattle.pt_sweep.proofs.Drawn.{Told}
 use Rattle.pt_view.specs.Views.{Stays}
 use Rattle.pt_sweep.proofs.frames.draw.Given as goal
@@ -14,15 +14,12 @@ invariant-loop-frame g l =
     let w : View = g.H.Holder.view l.holder in
     record {
       stays : Stays g.H.Holder.space g.H.Holder.aside g.H.Holder.alone l.initial.holder l.holder;
-      keeps : KeepsBook v w;
-      place : SamePlace v w;
+      only : OnlyTakes g.H.Holder.tells v w;
       rest : Rests g.F.Format.layout v → Rests g.F.Format.layout w;
       most : l.taken ≤ l.fn.count;
       purse : Gains v.purse w.purse l.taken;
       order : GainsInOrder l.frame v.purse w.purse;
       busy : (x : ℕ) → IsIn v.busy x → IsIn w.busy x;
-      absent : g.H.Holder.tells → w.absent ≡ v.absent;
-      stores : g.H.Holder.tells → w.stores ≡ v.stores;
       every : (x : ℕ) → x < l.frame → IsIn w.busy x;
       told : g.H.Holder.tells → Told l.frame v w;
       all : g.H.Holder.alone l.initial.holder → 0 < l.frame → HasEveryFrame w → FillsSpace w (g.H.Holder.aside l.holder);

@@ -1,7 +1,7 @@
 use Rattle.std.proofs.Common.{◌≡◌, ◌+◌, ◌-◌, arith}
 use Rattle.pt_model.specs.declared.block.Block.{Block}
-use Rattle.pt_walk.specs.Ways.{IsBlockOf}
 use Rattle.pt_format.proofs.LeafPages.{leaf_page}
+use Rattle.pt_walk.specs.RangeWalks.{IsBlockOf}
 use Rattle.pt_walk.proofs.Leaves.{same_first, same_read, size_few}
 use Rattle.pt_walk.proofs.block.block_of.Given.{Over}
 use Rattle.pt_walk.proofs.block.block_of.Goals as goal

@@ -2,7 +2,7 @@ use Rattle.std.proofs.Common.{◌+◌}
 use Rattle.std.specs.Prelude.{List}
 use Rattle.pt_model.specs.declared.block.Block.{Block}
 use Rattle.pt_model.specs.Book.{meets}
-use Rattle.pt_walk.specs.Ways.{left_of}
+use Rattle.pt_walk.specs.RangeWalks.{left_of}
 use Rattle.pt_walk.proofs.LeftBlocks.{next_found, next_none}
 use Rattle.pt_walk.proofs.walker.next_block.Goals as goal
 

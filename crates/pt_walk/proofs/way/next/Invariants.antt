@@ -3,7 +3,7 @@ use Rattle.pt_model.specs.declared.block.Block.{Block}
 use Rattle.pt_view.specs.declared.view.View.{View}
 use Rattle.pt_view.specs.Views.{IsAtRest}
 use Rattle.pt_view.specs.Loads.{ByLoads}
-use Rattle.pt_walk.specs.Ways.{IsWalking, left_of, rested, work_of}
+use Rattle.pt_walk.specs.RangeWalks.{IsWalking, left_of, rested, work_of}
 use Rattle.pt_view.specs.Views.{Stays}
 use Rattle.pt_walk.proofs.way.next.Given as goal
 

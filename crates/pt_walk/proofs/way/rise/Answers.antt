@@ -2,7 +2,7 @@ use Rattle.std.proofs.Common.{◌≡◌, ◌++◌, [], ◌∷◌, ap, ◌∙◌}
 use Rattle.std.specs.Option.{option_to_list}
 use Rattle.pt_view.specs.declared.view.View.{View}
 use Rattle.pt_view.proofs.Loads.{loads_left, loads_on}
-use Rattle.pt_walk.proofs.Ways.{way_up}
+use Rattle.pt_walk.proofs.WalkSteps.{way_up}
 use Rattle.pt_view.proofs.Stays.{stays_on}
 use Rattle.pt_walk.proofs.way.rise.Goals as goal
 

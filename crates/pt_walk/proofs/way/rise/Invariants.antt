@@ -2,7 +2,7 @@ use Rattle.std.proofs.Common.{◌≡◌}
 use Rattle.std.specs.Prelude.{length}
 use Rattle.pt_view.specs.declared.view.View.{View}
 use Rattle.pt_view.specs.Loads.{ByLoads}
-use Rattle.pt_walk.specs.Ways.{IsOnWay}
+use Rattle.pt_walk.specs.RangeWalks.{IsOnWay}
 use Rattle.pt_view.specs.Views.{Stays}
 use Rattle.pt_walk.proofs.way.rise.Given as goal
 

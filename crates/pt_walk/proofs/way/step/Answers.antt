@@ -2,9 +2,9 @@ use Rattle.std.proofs.Common.{◌≡◌, ℕ, ◌∷◌, subst, ap, ap₂, sym, 
 use Rattle.std.specs.Prelude.{filter}
 use Rattle.pt_model.specs.Layout.{end_of}
 use Rattle.pt_view.proofs.Loads.{leaf_loads, loads_on, none_loads, table_high, table_loads}
-use Rattle.pt_walk.specs.Ways.{IsOnWay, is_left}
+use Rattle.pt_walk.specs.RangeWalks.{IsOnWay, is_left}
 use Rattle.pt_walk.proofs.Ranges.{range_enters, range_load}
-use Rattle.pt_walk.proofs.Ways.{IsStep, block_few, block_high, is_block, left_empty, left_leaf, next_range, the_block, way_empty, way_entered, way_leaf}
+use Rattle.pt_walk.proofs.WalkSteps.{IsStep, block_few, block_high, is_block, left_empty, left_leaf, next_range, the_block, way_empty, way_entered, way_leaf}
 use Rattle.pt_walk.proofs.way.step.Given.{Over}
 use Rattle.pt_walk.proofs.way.step.Goals as goal
 use Rattle.pt_walk.proofs.way.step.Goals.{After-block_of-block, After-end_of-way, After-enter}

@@ -5,10 +5,10 @@ use Rattle.std.proofs.lemmas.Nat.{mul-le, pow_pos}
 use Rattle.std.proofs.Math.Pow.{pow_mono}
 use Rattle.pt_model.specs.Layout.{pages_of_table}
 use Rattle.pt_view.specs.declared.view.View.{View}
-use Rattle.pt_walk.specs.Ways.{HasBook}
+use Rattle.pt_walk.specs.RangeWalks.{HasBook}
 use Rattle.pt_walk.proofs.LeftBlocks.{begin_left, left_none}
 use Rattle.pt_view.proofs.Loads.{root_loads}
-use Rattle.pt_walk.proofs.Ways.{begun, book_here, rest_here, rest_on}
+use Rattle.pt_walk.proofs.WalkSteps.{begun, book_here, rest_here, rest_on}
 use Rattle.pt_walk.proofs.walker.RangeWalk.begin.Goals as goal
 
 pub returns-clause-walking : goal.returns-clause-walking

@@ -2,7 +2,7 @@ use Rattle.std.proofs.Common.{◌≡◌, ◌+◌, [], ◌∷◌, ◌++◌, refl,
 use Rattle.std.specs.Prelude.{length}
 use Rattle.pt_view.specs.declared.view.View.{View}
 use Rattle.pt_walk.specs.declared.way.Way.{Way}
-use Rattle.pt_walk.proofs.WayTables.{tables_length}
+use Rattle.pt_walk.proofs.WalkTables.{tables_length}
 use Rattle.pt_walk.proofs.walker.RangeWalk.end.Given.{Over}
 use Rattle.pt_walk.proofs.walker.RangeWalk.end.Goals as goal
 use Rattle.pt_walk.proofs.walker.RangeWalk.end.Goals.{After-len}

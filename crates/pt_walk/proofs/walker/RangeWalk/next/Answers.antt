@@ -1,4 +1,4 @@
-use Rattle.pt_walk.proofs.Ways.{rest_on}
+use Rattle.pt_walk.proofs.WalkSteps.{rest_on}
 use Rattle.pt_walk.proofs.walker.RangeWalk.next.Goals as goal
 
 pub returns-clause-rest : goal.returns-clause-rest

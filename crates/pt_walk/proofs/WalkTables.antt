@@ -11,7 +11,7 @@ use Rattle.pt_view.specs.Views.{SameBook}
 use Rattle.pt_view.specs.Calls.{lowest}
 use Rattle.pt_view.specs.Loads.{IsOver}
 use Rattle.pt_view.proofs.Paths.{lowest_snoc}
-use Rattle.pt_walk.specs.Ways.{Begins, HasTable, HasTables}
+use Rattle.pt_walk.specs.RangeWalks.{Begins, HasTable, HasTables}
 use Rattle.pt_model.proofs.Positions.{same_position}
 use Rattle.pt_walk.proofs.Ranges.{clear_from, clear_on}
 

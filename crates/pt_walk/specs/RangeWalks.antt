@@ -1,13 +1,13 @@
 -- The way of a walk over a range: where it stands in the tables, and the blocks that are left.
-use Rattle.std.specs.Prelude.{◌≡◌, ℕ, ◌+◌, ◌-◌, ◌*◌, ◌<◌, ◌≤◌, nat_lt, ◌&&◌, Bool, List, [], ◌∷◌, ◌++◌, length, filter, Option, Some, None}
+use Rattle.std.specs.Prelude.{◌≡◌, ℕ, ◌+◌, ◌-◌, ◌*◌, ◌<◌, ◌≤◌, nat_lt, ◌&&◌, Bool, List, [], ◌∷◌, ◌++◌, length, filter, find, Option, Some, None}
 use Rattle.pt_model.specs.declared.block.Block.{Block}
 use Rattle.pt_model.specs.Layout.{Layout, input_pages}
 use Rattle.pt_model.specs.Tables.{position_over}
-use Rattle.pt_model.specs.Book.{IsLawful, meets}
+use Rattle.pt_model.specs.Book.{lowest_mapped, meets}
 use Rattle.pt_format.specs.Words.{IsUnder, MayBeLeaf}
 use Rattle.pt_view.specs.declared.view.View.{View}
 use Rattle.pt_view.specs.declared.view.Node.{Node}
-use Rattle.pt_view.specs.Views.{IsAtRest, book_of}
+use Rattle.pt_view.specs.Views.{IsAtRest, IsLawfulAtRest, book_of}
 use Rattle.pt_walk.specs.declared.way.Way.{Way}
 use Rattle.pt_walk.specs.Walks.{IsClear, Rests}
 
@@ -31,7 +31,7 @@ rested v = record v { path = [] }
 pub record HasBook (f : Layout) (v : View) : Type 0 where
   pub levels : f.start ≤ v.levels
   pub rests : Rests f (rested v)
-  pub lawful : (blocks : List Block) → IsAtRest f (rested v) blocks → IsLawful f v.levels (book_of v blocks)
+  pub lawful : IsLawfulAtRest f (rested v)
 
 -- a table of the way: it is over the last page that is to be gone through there, it begins at page `at` or
 -- before it, and no piece of a higher level has a page that is left there
@@ -85,6 +85,25 @@ Comes (Some b) old new = old ≡ b ∷ new
 abbrev pub HasNext : Option Block → (old new : List Block) → Type 0
 HasNext None old new = (old ≡ []) × (new ≡ [])
 HasNext (Some b) old new = old ≡ b ∷ new
+
+-- what a walk says of the blocks of a view at rest: those that are left at its begin, a step of it, and its next block
+abbrev pub BeginsWith : Layout → View → (first count : ℕ) → Way → Type 0
+BeginsWith f v first count w = (blocks : List Block) → IsAtRest f v blocks → 0 < count → left_of w blocks ≡ filter (meets first (first + count)) blocks
+
+abbrev pub GivesStep : Layout → View → Option Block → (old new : Way) → Type 0
+GivesStep f v found old new = (blocks : List Block) → IsAtRest f (rested v) blocks → Comes found (left_of old blocks) (left_of new blocks)
+
+abbrev pub GivesNext : Layout → View → Option Block → (old new : Way) → Type 0
+GivesNext f v found old new = (blocks : List Block) → IsAtRest f (rested v) blocks → HasNext found (left_of old blocks) (left_of new blocks)
+
+-- the lowest block that meets a span, and its lowest mapped page
+abbrev pub IsFirstBlock : Layout → View → (first count : ℕ) → Option Block → Type 0
+IsFirstBlock f v first count found =
+    (blocks : List Block) → IsAtRest f v blocks → 0 < count → found ≡ find (meets first (first + count)) blocks
+
+abbrev pub IsFirstMapped : Layout → View → (first count : ℕ) → Option ℕ → Type 0
+IsFirstMapped f v first count found =
+    (blocks : List Block) → IsAtRest f v blocks → 0 < count → found ≡ lowest_mapped (book_of v blocks) first (first + count)
 
 -- what falls with each step: the pages that are left, and the levels below
 abbrev pub work_of : Way → ℕ

@@ -23,7 +23,7 @@ use Rattle.pt_view.specs.Views.{IsAtRest, book_of}
 use Rattle.pt_view.specs.Calls.{Rooted, left, all_but_last}
 use Rattle.pt_walk.specs.declared.way.Way.{Way}
 use Rattle.pt_walk.specs.Walks.{IsClear, IsFound, IsOverRange, OwnsAll, Rests}
-use Rattle.pt_walk.specs.Ways.{Begins, HasBook, HasTable, HasTables, IsBlockOf, IsOnWay, IsWalking, is_left, left_of, rested}
+use Rattle.pt_walk.specs.RangeWalks.{Begins, HasBook, HasTable, HasTables, IsBlockOf, IsOnWay, IsWalking, is_left, left_of, rested}
 use Rattle.pt_model.proofs.Quotients.{entry_is_table, root_over, same_quotient}
 use Rattle.pt_model.proofs.Positions.{same_position}
 use Rattle.pt_view.proofs.Pieces.{page_in_block}
@@ -32,7 +32,7 @@ use Rattle.pt_walk.proofs.Descent.{leaf_found, own_piece, owns_on}
 use Rattle.pt_walk.proofs.Ranges.{clear_below, clear_from, clear_root, free_here}
 use Rattle.pt_walk.proofs.Books.{block_found, owns_all}
 use Rattle.pt_walk.proofs.LeftBlocks.{found_left, free_left}
-use Rattle.pt_walk.proofs.WayTables.{Last, begins_less, begins_more, table_end, table_over, tables_last, tables_on, tables_snoc}
+use Rattle.pt_walk.proofs.WalkTables.{Last, begins_less, begins_more, table_end, table_over, tables_last, tables_on, tables_snoc}
 
 -- The book of a view on the way.
 
