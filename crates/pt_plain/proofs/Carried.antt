@@ -12,7 +12,7 @@ use Rattle.pt_model.specs.Words.{root_level, tag}
 use Rattle.pt_view.specs.declared.view.View.{View}
 use Rattle.pt_model.specs.Sets.{AddsPositions, IsAmong, SamePositions, places}
 use Rattle.pt_view.specs.Lists.{AddsFrame, IsIn, SameFrames}
-use Rattle.pt_view.specs.Views.{SameBook, SamePurse, SameRange, linked_of}
+use Rattle.pt_view.specs.Views.{SameBook, SamePurse, SameRange}
 use Rattle.pt_rule.specs.Totals.{has_table, total}
 use Rattle.pt_rule.specs.Lawful.{Lawful}
 use Rattle.pt_rule.proofs.TotalsKept.{among_here, among_more}
@@ -29,14 +29,6 @@ book_on u v w a b = record { pieces = b.pieces ∙ a.pieces; tables = b.tables �
 
 pub purse_on : (u v w : View) → SamePurse v u → SamePurse u w → SamePurse v w
 purse_on u v w a b = record { purse = b.purse ∙ a.purse; end = b.end ∙ a.end }
-
--- the same linked positions
-pub same_linked : (v w : View) → SameRange v w → SameBook v w → linked_of w ≡ linked_of v
-same_linked v w range book =
-    let positions : length w.tables ≡ length v.tables = ap length book.tables in
-    let spine : length (levels_between (starting_top w.levels) w.top) ≡ length (levels_between (starting_top v.levels) v.top) =
-    (λ i. length (levels_between (starting_top (range.levels i)) (book.top i))) in
-    omega arith
 
 -- Known positions.
 
@@ -117,13 +109,6 @@ known_same v w a b range tables top p =
     let e : w.known ≡ v.known = b ∙ (λ i. known_in (range.levels i) (tables i) (top i)) ∙ sym a in
     (λ h. subst (λ (ps : List Position). IsAmong ps p) e h, λ h. subst (λ (ps : List Position). IsAmong ps p) (sym e) h)
 
--- so many tables more are so many linked positions more
-pub linked_more : (v w : View) (more : ℕ) → SameRange v w → w.top ≡ v.top → length w.tables ≡ length v.tables + more → linked_of w ≡ linked_of v + more
-linked_more v w more range top tables =
-    let spine : length (levels_between (starting_top w.levels) w.top) ≡ length (levels_between (starting_top v.levels) v.top) =
-    (λ i. length (levels_between (starting_top (range.levels i)) (top i))) in
-    omega arith
-
 -- what a view with more tables knows is one of these, or was known
 pub known_back : (v w : View) (Joins : Position → Type 0) → KnowsAll v → KnowsAll w → SameRange v w → w.top ≡ v.top → ((p : Position) → IsAmong w.tables p → Joins p ⊎ IsAmong v.tables p) →
     (p : Position) → IsAmong w.known p → Joins p ⊎ IsAmong v.known p
@@ -134,12 +119,3 @@ known_back v w Joins a b range top tables p h = ⊎_elim
     inr (subst (λ (ps : List Position). IsAmong ps p) (sym a) (among_right p v.tables (map spine_position (levels_between (starting_top v.levels) v.top))
     (subst (λ (ps : List Position). IsAmong ps p) (λ i. map spine_position (levels_between (starting_top (range.levels i)) (top i))) s))))
     (among_append p w.tables (map spine_position (levels_between (starting_top w.levels) w.top)) (subst (λ (ps : List Position). IsAmong ps p) b h))
-
--- a position that joins a list in order makes it one longer
-pub length_added : (ps : List Position) (q : Position) → (IsAmong ps q → ⊥) → length (add_position ps q) ≡ length ps + 1
-length_added [] q new = refl
-length_added (r ∷ rs) q new = elim (before_order r q) [
-  | inl first ↦ (let e = ap length (add_after r rs q first) in let rest = length_added rs q (λ a. new (among_more q r rs a)) in omega arith)
-  | inr (inl same) ↦ absurd (new (subst (IsAmong (r ∷ rs)) same (among_here r rs)))
-  | inr (inr last) ↦ (let e = ap length (add_before r rs q last) in omega arith)
-]

@@ -16,7 +16,7 @@ use Rattle.pt_view.specs.declared.view.Piece.{Piece}
 use Rattle.pt_model.specs.Sets.{IsAmong, SamePositions}
 use Rattle.pt_view.specs.Lists.{SameFrames}
 use Rattle.pt_view.specs.Pieces.{add_piece, add_pieces, pieces_by, number_of, word_of}
-use Rattle.pt_view.specs.Views.{SamePurse, SameRange, linked_of}
+use Rattle.pt_view.specs.Views.{SamePurse, SameRange}
 use Rattle.pt_view.specs.Calls.{ArePieces, IsWritten, IsWrittenRun, MayPut, lowest, off_spine, pieces_at, top_over}
 use Rattle.pt_rule.proofs.PieceFacts.{one_here}
 use Rattle.pt_rule.proofs.WriteKept.{pieces_with}
@@ -34,7 +34,6 @@ record Keeps (v w : View) : Type 0 where
   pub known : SamePositions v.known w.known
   pub tables : w.tables ≡ v.tables
   pub top : w.top ≡ v.top
-  pub linked : linked_of w ≡ linked_of v
 
 keeps_here : (v : View) → Keeps v v
 keeps_here v = record {
@@ -46,7 +45,6 @@ keeps_here v = record {
   known = λ p. ((λ h. h), (λ h. h));
   tables = refl;
   top = refl;
-  linked = refl;
 }
 
 pub run_length : (words : List ℕ) (place count word step : ℕ) → length (set_run words place count word step) ≡ length words
@@ -155,10 +153,6 @@ module _ {f : Layout} (good : IsLayout f) (differ : WordsDiffer f) (agree : Step
     top_same = subst (λ (ws : List ℕ). (owner_view f n l ws head held path level prepared).top ≡ (to i).top) next_is
         (stores.same_top good differ agree w.owner (first + i) (piece i) may)
 
-    linked_same : linked_of (to (suc i)) ≡ linked_of (to i)
-    linked_same = subst (λ (ws : List ℕ). linked_of (owner_view f n l ws head held path level prepared) ≡ linked_of (to i)) next_is
-        (stores.writes_linked good differ agree w.owner (first + i) (piece i) may)
-
     more : pieces_by piece (suc i) ≡ pieces_by piece i ++ piece i ∷ []
     more = ap (λ (k : ℕ). pieces_by piece k) (let e : suc i ≡ i + 1 = omega arith in e) ∙ map-range_with_len_more piece 0 i i (let z : 0 + i ≡ i = omega arith in z)
 
@@ -182,7 +176,6 @@ module _ {f : Layout} (good : IsLayout f) (differ : WordsDiffer f) (agree : Step
             known = λ p. ((λ h. (k.known p).0 ((wrote.known p).0 h)), (λ h. (wrote.known p).1 ((k.known p).1 h)));
             tables = tables_same ∙ k.tables;
             top = top_same ∙ k.top;
-            linked = linked_same ∙ k.linked;
           };
           pieces = wrote.pieces (piece i) refl may ∙ ap (λ (xs : List Piece). add_piece f xs (piece i)) w.pieces
               ∙ sym (fold-append (add_piece f) v.pieces (pieces_by piece i) (piece i ∷ [])) ∙ ap (add_pieces f v.pieces) (sym more);
@@ -195,9 +188,6 @@ module _ {f : Layout} (good : IsLayout f) (differ : WordsDiffer f) (agree : Step
 
   pub run_owner : IsOwner f n l (words_to count) head held path level prepared
   run_owner = (all_to count (let e : count ≤ count = omega arith in e)).owner
-
-  pub run_linked : linked_of (to count) ≡ linked_of v
-  run_linked = (all_to count (let e : count ≤ count = omega arith in e)).keeps.linked
 
   pub run_inside : 0 < count → first + count ≤ 2 ^ f.index
   run_inside some = let low = (are.may (count - 1) (omega arith)).entry.within in omega arith

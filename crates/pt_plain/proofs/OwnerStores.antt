@@ -19,8 +19,7 @@ use Rattle.pt_view.specs.declared.holder.Won.TheVariants.{Yes, Met}
 use Rattle.pt_model.specs.Sets.{IsAmong}
 use Rattle.pt_view.specs.Lists.{SameFrames}
 use Rattle.pt_view.specs.Pieces.{word_of}
-use Rattle.pt_view.specs.Views.{linked_of}
-use Rattle.pt_view.specs.Calls.{IsEntryAt, IsInstalled, IsWritten, MayInstall, MayPut, entry_end, entry_first, is_under, with_table, MeetsOwn}
+use Rattle.pt_view.specs.Calls.{IsEntryAt, IsInstalled, IsWritten, MayInstall, MayPut, entry_end, entry_first, is_under, with_table, InstallFinds}
 use Rattle.pt_rule.specs.Lawful.{Lawful}
 use Rattle.pt_rule.specs.Kinds.{InstallTells, WriteTells, install, installed, zero as tells_zero, pointer as tells_pointer, put, written}
 use Rattle.pt_rule.proofs.PathTables.{add_again}
@@ -40,7 +39,7 @@ use Rattle.pt_rule.specs.Tags.{first_or}
 use Rattle.pt_rule.specs.WholeView.{prepared_frame}
 use Rattle.pt_plain.proofs.Paths.{Follows, follows_more}
 use Rattle.pt_plain.proofs.ReadBack.{IsPlain, Matches, agrees, matches_on, owner}
-use Rattle.pt_plain.proofs.Carried.{busy_same, known_adds, known_back, known_same, length_added, linked_more, purse_on, range_on}
+use Rattle.pt_plain.proofs.Carried.{busy_same, known_adds, known_back, known_same, purse_on, range_on}
 
 -- the tags stay where an entry is stored
 busy_stored : (f : Layout) (n : ℕ) (words : List ℕ) (frame number word : ℕ) → SameFrames (busy_in words n) (busy_in (slice_set words (entry_place f n frame number) word) n)
@@ -140,8 +139,8 @@ module _ {f : Layout} (good : IsLayout f) (differ : WordsDiffer f) (agree : Step
       met = installed_no f ⊥ v number found may n differ agree few step.1 nonzero
 
       -- it is one of the book or of the spine
-      pub met_own : MeetsOwn f number v Met
-      met_own = λ p entry. elim (step.1 p entry) [
+      pub met_finds : InstallFinds f (Unit {0}) number v Met
+      met_finds = λ _ p entry. elim (step.1 p entry) [
         | tells_zero none vacant off ↦ absurd (nonzero none)
         | tells_pointer child within below is owned ↦ owned whole
       ]
@@ -178,16 +177,6 @@ module _ {f : Layout} (good : IsLayout f) (differ : WordsDiffer f) (agree : Step
       pub met_owner : IsOwner f n l words head held met_path (level - 1) prepared
       met_owner = owner f good differ agree n l words met_u lawful_met whole head held met_path (level - 1) prepared met_matches
 
-      -- the child is one of the book's tables already
-      met_tables : with_table v.levels v.tables (child_at f place number) ≡ v.tables
-      met_tables = elim (step.1 place here) [
-        | tells_zero none vacant off ↦ absurd (nonzero none)
-        | tells_pointer child within below is owned ↦
-            with_either v.levels v.tables (child_at f place number) (λ ps. ps ≡ v.tables) refl
-            (λ off. ⊎_elim (λ (there : IsAmong v.tables (child_at f place number)). add_again v.tables (child_at f place number) (own.lawful.books 0 v refl some_page).in_order there)
-            (λ (spine : IsTrue (is_spine v.levels (child_at f place number))). absurd (false≢true (sym off ∙ spine))) (owned whole))
-      ]
-
       pub met_installed : IsInstalled f ⊥ number v Met met_w
       met_installed =
           let s = shown f n l words head held path level prepared in
@@ -207,12 +196,6 @@ module _ {f : Layout} (good : IsLayout f) (differ : WordsDiffer f) (agree : Step
                 (known_back v met_w (λ q. q ≡ child_at f p number) s.known_is s'.known_is range (a.book.top ∙ r.top) (joins p e met_w (a.book.tables ∙ r.tables p e)));
             told = λ no. absurd no;
           }
-
-      pub met_linked : linked_of met_w ≡ linked_of v + 0
-      met_linked =
-          let a = agrees f good differ agree n l words met_u lawful_met whole head held met_path (level - 1) prepared met_matches in
-          let same : length met_w.tables ≡ length v.tables = ap length (a.book.tables ∙ met_tables) in
-          linked_more v met_w 0 (range_on met_u v met_w met_is.range a.range) (a.book.top ∙ met_is.top) (omega arith)
 
     -- The entry is zero, and the prepared frame is linked there.
     module _ (empty : found ≡ 0) (own_frame : ℕ) (is : prepared ≡ Some own_frame) where
@@ -260,23 +243,13 @@ module _ {f : Layout} (good : IsLayout f) (differ : WordsDiffer f) (agree : Step
       pub won_owner : IsOwner f n l won_words head held won_path (level - 1) None
       won_owner = owner f good differ agree n l won_words won_u lawful_won whole head held won_path (level - 1) None won_matches
 
-      -- the child is a new table of the book
-      won_tables : length (with_table v.levels v.tables (child_at f place number)) ≡ length v.tables + 1
-      won_tables = elim (step.1 place here) [
-        | tells_zero none vacant off ↦
-            ap length (off_spine_adds v.levels v.tables (child_at f place number) off)
-            ∙ length_added v.tables (child_at f place number) (λ there. false≢true (sym (vacant.no_table (child_at f place number) there) ∙ under))
-        | tells_pointer child within below is_word owned ↦ absurd (differ.pointer_some place.level (frame_address f child) below (is_address f child (let h = few in omega arith)) (sym is_word ∙ empty))
+      -- nothing was there, and the child is off the spine
+      pub won_finds : InstallFinds f (Unit {0}) number v Yes
+      won_finds p entry = elim (step.1 p entry) [
+        | tells_zero none vacant off ↦ (vacant, off)
+        | tells_pointer child within below is_word owned ↦
+            absurd (differ.pointer_some p.level (frame_address f child) below (is_address f child (let h = few in omega arith)) (sym is_word ∙ empty))
       ]
-        where
-          under : is_under f place number (child_at f place number) ≡ true
-          under =
-              let e = level_is in
-              let h = high in
-              let some = entry_some f place.level in
-              and_from (nat_lt (place.level - 1) place.level && nat_le (entry_first f place number) (entry_first f place number)) (nat_lt (entry_first f place number) (entry_end f place number))
-              (and_from (nat_lt (place.level - 1) place.level) (nat_le (entry_first f place number) (entry_first f place number)) (lt-ltb (place.level - 1) place.level (omega arith)) (le-leb (entry_first f place number) (entry_first f place number) (omega arith)))
-              (lt-ltb (entry_first f place number) (entry_end f place number) (omega arith))
 
       pub won_installed : IsInstalled f ⊥ number v Yes won_w
       won_installed =
@@ -299,11 +272,6 @@ module _ {f : Layout} (good : IsLayout f) (differ : WordsDiffer f) (agree : Step
                 (known_back v won_w (λ q. q ≡ child_at f p number) s.known_is s'.known_is range (a.book.top ∙ r.top) (joins p e won_w (a.book.tables ∙ r.tables p e)));
             told = λ no. absurd no;
           }
-
-      pub won_linked : linked_of won_w ≡ linked_of v + 1
-      won_linked =
-          let a = agrees f good differ agree n l won_words won_u lawful_won whole head held won_path (level - 1) None won_matches in
-          linked_more v won_w 1 (range_on won_u v won_w won_is.range a.range) (a.book.top ∙ won_is.top) (ap length a.book.tables ∙ won_tables)
 
   -- Write.
 
@@ -365,9 +333,3 @@ module _ {f : Layout} (good : IsLayout f) (differ : WordsDiffer f) (agree : Step
           stores = λ no. absurd no;
           told = λ no. absurd no;
         }
-
-    pub writes_linked : linked_of w ≡ linked_of v
-    writes_linked =
-        let a = agrees f good differ agree n l words' u wrote.0 whole head held path level prepared matches_u in
-        let same : length w.tables ≡ length v.tables = ap length same_tables in
-        let e = linked_more v w 0 (record { frames = a.range.frames; levels = a.range.levels; first = a.range.first; count = a.range.count }) same_top (omega arith) in omega arith

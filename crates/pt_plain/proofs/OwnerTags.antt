@@ -13,8 +13,8 @@ use Rattle.pt_format.specs.Laws.{IsLayout, WordsDiffer}
 use Rattle.pt_format.specs.Manual.{StepsAgree}
 use Rattle.pt_view.specs.declared.view.View.{View}
 use Rattle.pt_view.specs.Lists.{AddsFrame, IsIn, SameFrames}
-use Rattle.pt_view.specs.Views.{linked_of}
-use Rattle.pt_view.specs.Calls.{HasEveryFrame, IsPlaced, IsPrepared, IsTaken, IsUnplaced, held_count}
+use Rattle.pt_view.specs.Views.{Aside}
+use Rattle.pt_view.specs.Calls.{FillsSpace, FitsSpace, HasEveryFrame, IsPlaced, IsPrepared, IsTaken, IsUnplaced}
 use Rattle.pt_rule.specs.Tags.{Chained, IsEnd, first_or, held_word}
 use Rattle.pt_rule.specs.Lawful.{Lawful}
 use Rattle.pt_rule.specs.Kinds.{after, place, put, rest_of, take}
@@ -30,6 +30,10 @@ use Rattle.pt_plain.proofs.OwnerFacts.{live, matches, shown}
 use Rattle.pt_plain.proofs.Chains.{tag_busy}
 use Rattle.pt_plain.proofs.ReadBack.{Matches, agrees, matches_on, owner}
 use Rattle.pt_plain.proofs.Carried.{book_on, busy_adds, busy_same, known_kept, range_on}
+
+-- nothing is set aside
+abbrev pub none_aside : Aside
+none_aside = record { blocks = []; positions = [] }
 
 -- the frames of a space are few
 pub frames_few : (f : Layout) → IsLayout f → frame_limit f ≤ 2 ^ 15
@@ -67,14 +71,15 @@ module _ {f : Layout} (good : IsLayout f) (differ : WordsDiffer f) (agree : Step
   tag_there frame lt = let long = own.lawful.sizes.words_are in omega arith
 
   -- the linked frames and the own ones are at most all, and all where every frame was found busy
-  pub few : linked_of v + held_count v ≤ v.frames
+  pub few : FitsSpace v none_aside
   few = let c = counted f good n l words (v ∷ []) 0 v own.lawful refl whole in let e = (shown f n l words head held path level prepared).frames_are in let a = c.0 in omega arith
 
   pub purse_within : length v.purse ≤ v.frames
   purse_within = let most = few in omega arith
 
-  pub every : HasEveryFrame v → linked_of v + held_count v ≡ v.frames
-  every all = (counted f good n l words (v ∷ []) 0 v own.lawful refl whole).1 all ∙ sym (shown f n l words head held path level prepared).frames_are
+  pub every : HasEveryFrame v → FillsSpace v none_aside
+  every all =
+      let e = (counted f good n l words (v ∷ []) 0 v own.lawful refl whole).1 all ∙ sym (shown f n l words head held path level prepared).frames_are in omega arith
 
   next_is : first_or v.end v.purse ≡ head
   next_is =

@@ -11,7 +11,6 @@ use pt_view::{Holder, Seen, Won};
 
 impl<F: Format> Holder<F> for Plain<F> {
     ghost use Rattle.std.specs.Prelude.{[]};
-    ghost use Rattle.pt_view.specs.Views.{linked_of};
 
     type Space = ();
 
@@ -24,8 +23,6 @@ impl<F: Format> Holder<F> for Plain<F> {
     ghost tells = { ⊥ };
 
     ghost alone = { λ p. Unit {0} };
-
-    ghost linked = { λ p. linked_of p.view };
 
     fn root(&mut self) -> u32 {
         let root = self.words[0];

@@ -6,7 +6,6 @@ use Rattle.pt_view.specs.declared.view.View.{View}
 use Rattle.pt_view.specs.declared.view.Piece.{Piece}
 use Rattle.pt_view.specs.declared.view.Change.TheVariants.{Cleared}
 use Rattle.pt_view.specs.Pieces.{table_of, number_of}
-use Rattle.pt_view.specs.Views.{linked_of}
 use Rattle.pt_view.specs.Calls.{drop_at, pieces_at, IsCleared, MayDrop}
 use Rattle.pt_rule.specs.Kinds.{ClearTells, cleared}
 use Rattle.pt_rule.proofs.PieceFacts.{one_here}
@@ -40,7 +39,3 @@ module _ (f : Layout) (v : View) (number found : ℕ) (x : Piece) (may : MayDrop
     stores = λ told y other. ap (λ (z : Piece). v.stores ++ Cleared z ∷ []) (one_dropped y other);
     told = λ told. (refl, refl);
   }
-
-  -- the linked positions stay
-  pub cleared_linked : linked_of (cleared f x v) ≡ linked_of v
-  cleared_linked = refl

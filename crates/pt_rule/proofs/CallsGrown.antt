@@ -2,7 +2,6 @@
 -- are what a holder's call of grow says.
 use Rattle.std.proofs.Common.{◌≡◌, ◌≢◌, ℕ, ◌+◌, ◌-◌, ◌%◌, ◌≤◌, List, [], ◌∷◌, sym, refl, ap, ◌∙◌, subst, arith}
 use Rattle.std.specs.Prelude.{None, Some}
-use Rattle.std.proofs.lemmas.List.FromFn.{length-range_with_len}
 use mathlib.Core.Logic.{dite}
 use native.Mathlib.Decide.{ℕ_discrete}
 use Rattle.pt_model.specs.Layout.{Layout, input_pages}
@@ -11,7 +10,6 @@ use Rattle.pt_model.specs.Words.{root_word}
 use Rattle.pt_view.specs.declared.view.View.{View}
 use Rattle.pt_view.specs.declared.view.Node.{Node}
 use Rattle.pt_view.specs.declared.holder.Won.TheVariants.{Yes, Met}
-use Rattle.pt_view.specs.Views.{linked_of}
 use Rattle.pt_view.specs.Calls.{IsGrown, IsOutgrown, IsRaised, IsRootAt, MayGrow, lowest}
 use Rattle.pt_rule.specs.Kinds.{May, RaiseTells, after, bridge, over_top, raise, unbridge, with_spine}
 use Rattle.pt_rule.proofs.CallsRooted.{same_frames, spine_adds}
@@ -109,12 +107,3 @@ module _ (f : Layout) (n : ℕ) (v : View) (may : MayGrow v) where
           legal = told.root.a_level;
           known = spine_adds v.levels (found % 8) v.known;
         }
-
-    -- a view of the whole space has one linked position more after a growth
-    pub grown_linked : alone → starting_top v.levels ≤ v.top → found ≡ root_word may.root may.level → linked_of topped ≡ linked_of v + 1
-    grown_linked a low e =
-        let top = told.root.exact (whole a) in let is = told.won e in
-        let long = length-range_with_len (starting_top v.levels) (v.top + 1 - starting_top v.levels) in
-        let now = length-range_with_len (starting_top v.levels) (may.level + 1 + 1 - starting_top v.levels) in
-        let same : v.top ≡ may.level = sym top ∙ is in
-        omega arith

@@ -15,9 +15,8 @@ use Rattle.pt_view.specs.declared.view.View.{View}
 use Rattle.pt_view.specs.declared.view.Node.{Node}
 use Rattle.pt_model.specs.Sets.{IsAmong, RemovesPosition, without_position}
 use Rattle.pt_view.specs.Pieces.{first_of}
-use Rattle.pt_view.specs.Views.{linked_of}
 use Rattle.pt_view.specs.Calls.{above, begins_under, entry_first, entry_end, is_under, lowest, span_end, IsEntryAt, IsUnlinked, MayUnlink, MeetsEntry}
-use Rattle.pt_rule.specs.Kinds.{EntryTells, zero as tells_zero, own, pointer, IsLowestIn, May, MayCut, UnlinkTells, after, deeper, met, unlink, unlinked, unplace}
+use Rattle.pt_rule.specs.Kinds.{EntryTells, zero as tells_zero, own, pointer, IsLowestIn, May, MayCut, after, deeper, met, unlink, unlinked, unplace}
 use Rattle.pt_rule.proofs.TotalsKept.{among_cases, among_more, same_self}
 use Rattle.pt_rule.proofs.PositionFacts.{entry_some}
 use Rattle.pt_rule.proofs.TreeFacts.{entry_of_piece, frame_back, is_address}
@@ -190,11 +189,3 @@ module _ (f : Layout) (n : ℕ) (good : IsLayout f) (d : WordsDiffer f) (a : Ste
       known = λ p entry. subst (λ (q : Position). RemovesPosition v.known (without_position child (child ∷ v.known)) (child_at f q number)) (sym (one_place p entry)) known_is;
       told = λ told. record { taken = refl; absent = refl; stores = refl };
     }
-
-    -- one position is linked no more
-    pub unlinked_linked : (found last : ℕ) → UnlinkTells f n (inside h) found → linked_of (after f (unplace h) last cut) + 1 ≡ linked_of v
-    unlinked_linked found last told =
-        let e : Some told.child ≡ Some (node h) = sym told.last ∙ lowest_more v.path (node h) in
-        let nodes : told.child ≡ node h = cc in
-        let fewer : length (without_position child v.tables) + 1 ≡ length v.tables = subst (λ (x : Node). length (without_position x.position v.tables) + 1 ≡ length v.tables) nodes told.fewer in
-        omega arith

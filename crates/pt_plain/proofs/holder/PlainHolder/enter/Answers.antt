@@ -6,10 +6,8 @@ use Rattle.pt_model.specs.Words.{entry_of, frame_named}
 use Rattle.pt_format.specs.Words.{IsPointer, IsLeaf, IsWritten}
 use Rattle.pt_view.specs.declared.view.View.{View}
 use Rattle.pt_view.specs.declared.holder.Seen.TheVariants.{Empty, Leaf, Entered}
-use Rattle.pt_view.specs.Views.{linked_of}
 use Rattle.pt_view.specs.Calls.{MeetsEntry, Went}
 use Rattle.pt_plain.specs.Owner.{IsOwner, Owned, owner_view}
-use Rattle.pt_plain.proofs.Carried.{same_linked}
 use Rattle.pt_plain.proofs.OwnerEnter as enter
 use Rattle.pt_plain.proofs.holder.PlainHolder.enter.Given.{Over}
 use Rattle.pt_plain.proofs.holder.PlainHolder.enter.Goals as goal
@@ -114,11 +112,6 @@ module _ (g : Over) (c : After-frame_named g) where
 
 pub invariant_of-self : goal.invariant_of-self
 invariant_of-self g c = owner_now g (goal.at.invariant_of-self g c).After-frame_named
-
-pub returns-clause-linked : goal.returns-clause-linked
-returns-clause-linked g c = λ _.
-    let w = went_now g (goal.at.returns-clause-linked g c).After-frame_named in
-    same_linked _ _ w.range w.book ∙ ap (λ (x : Owned). linked_of x.view) c.self.view_is
 
 pub returns-clause-went : goal.returns-clause-went
 returns-clause-went g c =

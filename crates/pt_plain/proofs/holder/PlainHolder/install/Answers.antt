@@ -4,8 +4,7 @@ use Rattle.pt_model.specs.Words.{entry_of, entry_place, frame_address, frame_nam
 use Rattle.pt_format.specs.Words.{IsPointer, IsTableAddress}
 use Rattle.pt_view.specs.declared.view.View.{View}
 use Rattle.pt_view.specs.declared.holder.Won.TheVariants.{Yes, Met}
-use Rattle.pt_view.specs.Views.{linked_of}
-use Rattle.pt_view.specs.Calls.{IsInstalled, MayInstall, MeetsOwn}
+use Rattle.pt_view.specs.Calls.{IsInstalled, MayInstall, InstallFinds}
 use Rattle.pt_plain.specs.Owner.{IsOwner, Owned, owner_view}
 use Rattle.pt_plain.proofs.OwnerStores as stores
 use Rattle.pt_plain.proofs.OwnerTags as tags
@@ -105,16 +104,6 @@ invariant_of-self g e =
     subst (λ (x : ℕ). IsOwner g.F.Format.layout o.frames o.levels o.words.items o.head o.held (slice_set o.path (o.level - 1) x) (o.level - 1) o.prepared) (frame_is g c)
     (stores.met_owner law.lawful_layout law.words_differ law.steps_agree c.self.invariant c.args.number (may g (met_start g m)) (nonzero g m))
 
-pub returns-then-found-ne0-clause-linked : goal.returns-then-found-ne0-clause-linked
-returns-then-found-ne0-clause-linked g e = λ _.
-    let c = (goal.at.returns-then-found-ne0-clause-linked g e).After-frame_named in
-    let o = c.self.inside in
-    let law = g.met.F.Format in
-    let m = met_case g c in
-    subst (λ (x : ℕ). linked_of (owner_view g.F.Format.layout o.frames o.levels o.words.items o.head o.held (slice_set o.path (o.level - 1) x) (o.level - 1) o.prepared) ≡ linked_of (view g (met_start g m)) + 0) (frame_is g c)
-    (stores.met_linked law.lawful_layout law.words_differ law.steps_agree c.self.invariant c.args.number (may g (met_start g m)) (nonzero g m))
-    ∙ ap (λ (x : Owned). linked_of x.view + 0) c.self.view_is
-
 pub returns-then-found-ne0-clause-installed : goal.returns-then-found-ne0-clause-installed
 returns-then-found-ne0-clause-installed g e =
     let c = (goal.at.returns-then-found-ne0-clause-installed g e).After-frame_named in
@@ -126,14 +115,14 @@ returns-then-found-ne0-clause-installed g e =
     (subst (λ (x : ℕ). IsInstalled f ⊥ c.args.number (view g (met_start g m)) Met (owner_view f o.frames o.levels o.words.items o.head o.held (slice_set o.path (o.level - 1) x) (o.level - 1) o.prepared)) (frame_is g c)
     (stores.met_installed law.lawful_layout law.words_differ law.steps_agree c.self.invariant c.args.number (may g (met_start g m)) (nonzero g m)))
 
-pub returns-then-found-ne0-clause-met : goal.returns-then-found-ne0-clause-met
-returns-then-found-ne0-clause-met g e = λ _.
-    let c = (goal.at.returns-then-found-ne0-clause-met g e).After-frame_named in
+pub returns-then-found-ne0-clause-found : goal.returns-then-found-ne0-clause-found
+returns-then-found-ne0-clause-found g e =
+    let c = (goal.at.returns-then-found-ne0-clause-found g e).After-frame_named in
     let o = c.self.inside in
     let law = g.met.F.Format in
     let m = met_case g c in
-    subst (λ (x : Owned). MeetsOwn g.F.Format.layout c.args.number x.view Met) c.self.view_is
-    (stores.met_own law.lawful_layout law.words_differ law.steps_agree c.self.invariant c.args.number (may g (met_start g m)) (nonzero g m))
+    subst (λ (x : Owned). InstallFinds g.F.Format.layout (Unit {0}) c.args.number x.view Met) c.self.view_is
+    (stores.met_finds law.lawful_layout law.words_differ law.steps_agree c.self.invariant c.args.number (may g (met_start g m)) (nonzero g m))
 
 -- The prepared frame is linked there.
 
@@ -205,16 +194,6 @@ invariant_of-self-2 g e =
     subst (λ (ws : List ℕ). IsOwner g.F.Format.layout o.frames o.levels ws o.head o.held (slice_set o.path (o.level - 1) c.in-Some.frame) (o.level - 1) None) (sym (words_now g c))
     (stores.won_owner law.lawful_layout law.words_differ law.steps_agree c.self.invariant c.args.number (may g (start g w)) (empty g w) c.in-Some.frame c.in-Some.is)
 
-pub returns-clause-linked : goal.returns-clause-linked
-returns-clause-linked g e = λ _.
-    let c = (goal.at.returns-clause-linked g e).After-set_entry in
-    let o = c.self.inside in
-    let law = g.met.F.Format in
-    let w = won_case g c in
-    subst (λ (ws : List ℕ). linked_of (now g c ws) ≡ linked_of (view g (start g w)) + 1) (sym (words_now g c))
-    (stores.won_linked law.lawful_layout law.words_differ law.steps_agree c.self.invariant c.args.number (may g (start g w)) (empty g w) c.in-Some.frame c.in-Some.is)
-    ∙ ap (λ (x : Owned). linked_of x.view + 1) c.self.view_is
-
 pub returns-clause-installed : goal.returns-clause-installed
 returns-clause-installed g e =
     let c = (goal.at.returns-clause-installed g e).After-set_entry in
@@ -225,3 +204,11 @@ returns-clause-installed g e =
     subst (λ (x : Owned). IsInstalled f ⊥ c.args.number x.view Yes (now g c (words' g c))) c.self.view_is
     (subst (λ (ws : List ℕ). IsInstalled f ⊥ c.args.number (view g (start g w)) Yes (now g c ws)) (sym (words_now g c))
     (stores.won_installed law.lawful_layout law.words_differ law.steps_agree c.self.invariant c.args.number (may g (start g w)) (empty g w) c.in-Some.frame c.in-Some.is))
+
+pub returns-clause-found : goal.returns-clause-found
+returns-clause-found g e =
+    let c = (goal.at.returns-clause-found g e).After-set_entry in
+    let law = g.met.F.Format in
+    let w = won_case g c in
+    subst (λ (x : Owned). InstallFinds g.F.Format.layout (Unit {0}) c.args.number x.view Yes) c.self.view_is
+    (stores.won_finds law.lawful_layout law.words_differ law.steps_agree c.self.invariant c.args.number (may g (start g w)) (empty g w) c.in-Some.frame c.in-Some.is)

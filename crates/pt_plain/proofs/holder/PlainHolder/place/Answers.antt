@@ -5,11 +5,9 @@ use Rattle.pt_model.specs.declared.position.Position.{Position}
 use Rattle.pt_model.specs.Layout.{input_pages}
 use Rattle.pt_model.specs.Words.{placed_word, tag}
 use Rattle.pt_view.specs.declared.view.View.{View}
-use Rattle.pt_view.specs.Views.{linked_of}
 use Rattle.pt_view.specs.Calls.{IsPlaced}
 use Rattle.pt_rule.specs.Tags.{IsEnd, first_or, held_word}
 use Rattle.pt_plain.specs.Owner.{IsOwner, Owned, owner_view}
-use Rattle.pt_plain.proofs.Carried.{same_linked}
 use Rattle.pt_plain.proofs.OwnerTags as tags
 use Rattle.pt_plain.proofs.Stored.{stored}
 use Rattle.pt_plain.proofs.holder.PlainHolder.place.Given.{Over}
@@ -122,9 +120,6 @@ module _ (g : Over) (c : After-set_tag g) where
 
 pub invariant_of-self : goal.invariant_of-self
 invariant_of-self g c = owner_now g (goal.at.invariant_of-self g c).After-set_tag
-
-pub returns-clause-linked : goal.returns-clause-linked
-returns-clause-linked g c = λ _. let p = placed_now g (goal.at.returns-clause-linked g c).After-set_tag in same_linked _ _ p.range p.book ∙ ap (λ (x : Owned). linked_of x.view) c.self.view_is
 
 pub returns-clause-placed : goal.returns-clause-placed
 returns-clause-placed g e =

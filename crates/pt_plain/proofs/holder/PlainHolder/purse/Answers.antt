@@ -1,6 +1,5 @@
 use Rattle.std.proofs.Common.{ℕ, ◌+◌, ◌≤◌, length, ap, sym, ◌∙◌, subst}
-use Rattle.pt_view.specs.Views.{linked_of}
-use Rattle.pt_view.specs.Calls.{held_count}
+use Rattle.pt_view.specs.Calls.{FitsSpace}
 use Rattle.pt_plain.specs.Owner.{Owned, owner_view}
 use Rattle.pt_plain.proofs.OwnerTags as tags
 use Rattle.pt_plain.proofs.holder.PlainHolder.purse.Goals as goal
@@ -15,7 +14,7 @@ pub returns-clause-few : goal.returns-clause-few
 returns-clause-few g c = λ _.
     let o = c.self.inside in
     let law = g.met.F.Format in
-    subst (λ (x : Owned). linked_of x.view + held_count x.view ≤ x.view.frames) c.self.view_is (tags.few law.lawful_layout law.words_differ law.steps_agree c.self.invariant)
+    subst (λ (x : Owned). FitsSpace x.view tags.none_aside) c.self.view_is (tags.few law.lawful_layout law.words_differ law.steps_agree c.self.invariant)
 
 pub returns-clause-within : goal.returns-clause-within
 returns-clause-within g c =

@@ -1,10 +1,8 @@
 use Rattle.std.proofs.Common.{◌≡◌, ℕ, ◌+◌, ◌/◌, ◌%◌, [], ap, sym, ◌∙◌, subst, arith}
 use Rattle.std.specs.Prelude.{slice_index, slice_set}
 use Rattle.std.proofs.lemmas.List.{get_or_default}
-use Rattle.pt_view.specs.Views.{linked_of}
 use Rattle.pt_view.specs.Calls.{Rooted}
 use Rattle.pt_plain.specs.Owner.{IsOwner, Owned, owner_view}
-use Rattle.pt_plain.proofs.Carried.{same_linked}
 use Rattle.pt_plain.proofs.FixedRoot.{fixed_root}
 use Rattle.pt_plain.proofs.OwnerPath.{root_owner, root_is}
 use Rattle.pt_plain.proofs.holder.PlainHolder.root.Given.{Over}
@@ -50,16 +48,6 @@ invariant_of-self g e =
     subst (λ (k : ℕ). IsOwner f o.frames o.levels o.words.items o.head o.held (slice_set o.path k (z / 8)) k o.prepared) (sym e.root_level-level.ensures)
     (subst (λ (z : ℕ). IsOwner f o.frames o.levels o.words.items o.head o.held (slice_set o.path (z % 8) (z / 8)) (z % 8) o.prepared) (loaded g c)
     (root_owner f o.frames o.levels o.words.items o.head o.held o.path o.level o.prepared c.self.invariant law.lawful_layout law.words_differ law.steps_agree (no_path g c)))
-
-pub returns-clause-linked : goal.returns-clause-linked
-returns-clause-linked g e = λ _.
-    let c = (goal.at.returns-clause-linked g e).After-index-root in
-    let o = c.self.inside in
-    let f = g.F.Format.layout in
-    let z = c.index-root.result.now in
-    let r = subst (λ (k : ℕ). Rooted f ⊥ (Unit {0}) (owner_view f o.frames o.levels o.words.items o.head o.held o.path o.level o.prepared) k
-    (owner_view f o.frames o.levels o.words.items o.head o.held (slice_set o.path k (z / 8)) k o.prepared)) (sym e.root_level-level.ensures) (rooted_is g c) in
-    same_linked _ _ r.range r.book ∙ ap (λ (x : Owned). linked_of x.view) c.self.view_is
 
 pub returns-clause-rooted : goal.returns-clause-rooted
 returns-clause-rooted g e =

@@ -2,11 +2,9 @@ use Rattle.std.proofs.Common.{◌≡◌, ◌≢◌, ℕ, true, false, ◌+◌, �
 use Rattle.std.specs.Prelude.{Some, slice_set}
 use Rattle.pt_model.specs.Words.{tag}
 use Rattle.pt_view.specs.declared.view.View.{View}
-use Rattle.pt_view.specs.Views.{linked_of}
-use Rattle.pt_view.specs.Calls.{HasEveryFrame, IsTaken, held_count}
+use Rattle.pt_view.specs.Calls.{FillsSpace, HasEveryFrame, IsTaken}
 use Rattle.pt_rule.specs.Tags.{held_word}
 use Rattle.pt_plain.specs.Owner.{IsOwner, Owned, owner_view}
-use Rattle.pt_plain.proofs.Carried.{same_linked}
 use Rattle.pt_plain.proofs.OwnerFacts.{shown}
 use Rattle.pt_plain.proofs.OwnerTags as tags
 use Rattle.pt_plain.proofs.Stored.{stored}
@@ -41,7 +39,7 @@ pub returns-then-tag_of-ne0-clause-all : goal.returns-then-tag_of-ne0-clause-all
 returns-then-tag_of-ne0-clause-all g c = λ _.
     let o = c.self.inside in
     let law = g.met.F.Format in
-    subst (λ (x : Owned). HasEveryFrame x.view → linked_of x.view + held_count x.view ≡ x.view.frames) c.self.view_is
+    subst (λ (x : Owned). HasEveryFrame x.view → FillsSpace x.view tags.none_aside) c.self.view_is
     (tags.every law.lawful_layout law.words_differ law.steps_agree c.self.invariant)
 
 -- The frame is free.
@@ -104,9 +102,6 @@ module _ (g : Over) (c : After-set_tag g) where
 
 pub invariant_of-self : goal.invariant_of-self
 invariant_of-self g c = owner_now g (goal.at.invariant_of-self g c).After-set_tag
-
-pub returns-clause-linked : goal.returns-clause-linked
-returns-clause-linked g c = λ _. let t = taken_now g (goal.at.returns-clause-linked g c).After-set_tag in same_linked _ _ t.range t.book ∙ ap (λ (x : Owned). linked_of x.view) c.self.view_is
 
 pub returns-clause-taken : goal.returns-clause-taken
 returns-clause-taken g c =

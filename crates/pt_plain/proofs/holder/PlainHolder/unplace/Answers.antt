@@ -1,11 +1,9 @@
 use Rattle.std.proofs.Common.{◌≡◌, ℕ, ◌+◌, ◌<◌, List, length, ap, sym, ◌∙◌, subst, arith, take, drop, ◌++◌}
 use Rattle.std.specs.Prelude.{None, Some, slice_set}
 use Rattle.pt_view.specs.declared.view.View.{View}
-use Rattle.pt_view.specs.Views.{linked_of}
 use Rattle.pt_view.specs.Calls.{IsPrepared, IsUnplaced}
 use Rattle.pt_rule.specs.Tags.{held_word}
 use Rattle.pt_plain.specs.Owner.{IsOwner, Owned, owner_view}
-use Rattle.pt_plain.proofs.Carried.{same_linked}
 use Rattle.pt_plain.proofs.OwnerTags as tags
 use Rattle.pt_plain.proofs.Stored.{stored}
 use Rattle.pt_plain.proofs.holder.PlainHolder.unplace.Given.{Over}
@@ -72,9 +70,6 @@ module _ (g : Over) (c : After-set_tag g) where
 
 pub invariant_of-self : goal.invariant_of-self
 invariant_of-self g c = owner_now g (goal.at.invariant_of-self g c).After-set_tag
-
-pub returns-clause-linked : goal.returns-clause-linked
-returns-clause-linked g c = λ _. let u = unplaced_now g (goal.at.returns-clause-linked g c).After-set_tag in same_linked _ _ u.range u.book ∙ ap (λ (x : Owned). linked_of x.view) c.self.view_is
 
 pub returns-clause-unplaced : goal.returns-clause-unplaced
 returns-clause-unplaced g c =

@@ -3,7 +3,6 @@ use Rattle.std.specs.Prelude.{slice_index, slice_set}
 use Rattle.pt_model.specs.Words.{entry_place}
 use Rattle.pt_view.specs.declared.view.View.{View}
 use Rattle.pt_view.specs.Pieces.{word_of}
-use Rattle.pt_view.specs.Views.{linked_of}
 use Rattle.pt_view.specs.Calls.{IsWritten, MayWrite}
 use Rattle.pt_plain.specs.Owner.{IsOwner, Owned, owner_view}
 use Rattle.pt_plain.proofs.OwnerStores as stores
@@ -51,15 +50,6 @@ invariant_of-self g e =
     let put = may g (start g c) in
     subst (λ (ws : List ℕ). IsOwner g.F.Format.layout o.frames o.levels ws o.head o.held o.path o.level o.prepared) (sym (words_now g c))
     (stores.writes_owner law.lawful_layout law.words_differ law.steps_agree c.self.invariant c.args.number put.0 put.2)
-
-pub returns-clause-linked : goal.returns-clause-linked
-returns-clause-linked g e = λ _.
-    let c = (goal.at.returns-clause-linked g e).After-set_entry in
-    let o = c.self.inside in
-    let law = g.met.F.Format in
-    let put = may g (start g c) in
-    subst (λ (ws : List ℕ). linked_of (now g c ws) ≡ linked_of (view g (start g c))) (sym (words_now g c))
-    (stores.writes_linked law.lawful_layout law.words_differ law.steps_agree c.self.invariant c.args.number put.0 put.2) ∙ ap (λ (x : Owned). linked_of x.view) c.self.view_is
 
 pub returns-clause-written : goal.returns-clause-written
 returns-clause-written g e =

@@ -2,7 +2,6 @@ use Rattle.std.proofs.Common.{◌≡◌, ℕ, List, length, ap, sym, ◌∙◌, 
 use Rattle.std.specs.Prelude.{slice_index}
 use Rattle.pt_model.specs.Words.{entry_place}
 use Rattle.pt_view.specs.declared.view.View.{View}
-use Rattle.pt_view.specs.Views.{linked_of}
 use Rattle.pt_view.specs.Calls.{IsWrittenRun, MayWriteRun}
 use Rattle.pt_plain.specs.Owner.{IsOwner, Owned, owner_view, set_run}
 use Rattle.pt_plain.proofs.OwnerRuns as runs
@@ -59,15 +58,6 @@ invariant_of-self g e =
     let m = may g (start g c) in
     subst (λ (ws : List ℕ). IsOwner g.F.Format.layout o.frames o.levels ws o.head o.held o.path o.level o.prepared) (sym (words_now g c))
     (runs.run_owner law.lawful_layout law.words_differ law.steps_agree c.self.invariant m.are)
-
-pub returns-clause-linked : goal.returns-clause-linked
-returns-clause-linked g e = λ _.
-    let c = (goal.at.returns-clause-linked g e).After-set_run in
-    let o = c.self.inside in
-    let law = g.met.F.Format in
-    let m = may g (start g c) in
-    subst (λ (ws : List ℕ). linked_of (now g c ws) ≡ linked_of (view g (start g c))) (sym (words_now g c))
-    (runs.run_linked law.lawful_layout law.words_differ law.steps_agree c.self.invariant m.are) ∙ ap (λ (x : Owned). linked_of x.view) c.self.view_is
 
 pub returns-clause-written : goal.returns-clause-written
 returns-clause-written g e =
