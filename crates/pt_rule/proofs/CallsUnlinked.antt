@@ -108,6 +108,10 @@ module _ (f : Layout) (n : ℕ) (good : IsLayout f) (d : WordsDiffer f) (a : Ste
     address : IsTableAddress f (frame_address f frame_found)
     address = is_address f frame_found (let h = frame_within in omega arith)
 
+    pub is_pointer : (p : Position) → IsEntryAt f v p number → IsPointer f p.level found (frame_address f frame_found)
+    is_pointer p entry = subst (λ (q : Position). IsPointer f q.level found (frame_address f frame_found)) (sym (one_place p entry))
+        (record { at_level = found_pointer.2; a_frame = address; word_is = was_pointer })
+
     -- so it isn't zero, nor the word of a page
     pub not_zero : found ≢ 0
     not_zero z = d.pointer_some place.level (frame_address f frame_found) found_pointer.2 address (sym was_pointer ∙ z)

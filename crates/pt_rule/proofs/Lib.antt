@@ -44,6 +44,7 @@ pub mod TakenAway
 pub mod SharedState
 pub mod OpeningKept
 pub mod CutPaths
+pub mod Forgotten
 pub mod Holding
 pub mod Regroup
 pub mod CutLists
@@ -62,7 +63,9 @@ pub mod CallsInstalled
 pub mod CallsCleared
 pub mod CallsUnlinked
 pub mod CallsGrown
+pub mod CallsMeet
 pub mod LoneGrowth
 pub mod GrowthStates
 pub mod Kept
 pub mod WalkUnion
+pub mod Laws

@@ -21,33 +21,38 @@ use Rattle.pt_view.specs.Calls.{above, drop_at, lowest, entry_first, IsBare, IsE
 use Rattle.pt_rule.specs.Tags.{IsEnd, first_or, held_word}
 use Rattle.pt_rule.specs.Lawful.{Lawful, IsOwnPiece}
 
+-- Each line names the holder's call that makes the step, where one does.
 pub data Kind : Type 0 where
-  -- an exchange of a tag, from free to held
+  -- `take`: an exchange of a tag, from free to held
   take : (frame : ℕ) → Kind
-  -- stores to tags of own frames: the purse's first frame is prepared for a position, is the first again,
-  -- is free, and the last frame has a new end mark
-  place : (frame : ℕ) → Position → Kind
-  unplace : (frame : ℕ) → Kind
-  free : (frame : ℕ) → Kind
-  mark : (frame : ℕ) → Option ℕ → Kind
-  -- a load of the tag of a frame of the purse
+  -- `place`: a load of the tag of a frame of the purse, for the frame that comes next there, and a store by which the
+  -- purse's first frame is prepared for a position
   look_tag : (frame : ℕ) → Kind
-  -- a load of the root
+  place : (frame : ℕ) → Position → Kind
+  -- `unplace`, and the end of `unlink`: a store by which the prepared frame is the purse's first again
+  unplace : (frame : ℕ) → Kind
+  -- a release: a store by which the purse's first frame is free
+  free : (frame : ℕ) → Kind
+  -- a cut of a purse in two, or two put together: a store by which its last frame has a new end mark
+  mark : (frame : ℕ) → Option ℕ → Kind
+  -- `root`: a load of the root
   load_root : Kind
-  -- a load of an entry of the path's last table, which is in this frame
+  -- `enter`, and the begin of `unlink`: a load of an entry of the path's last table, which is in this frame
   look : (frame number : ℕ) → Kind
-  -- an exchange of such an entry, from zero to the prepared frame's pointer
+  -- `install`: an exchange of such an entry, from zero to the prepared frame's pointer
   install : (frame number : ℕ) → Kind
-  -- a store of a piece's word to such an entry
+  -- `write`, and each store of `write_run`: a store of a piece's word to such an entry
   write : (frame number : ℕ) → Piece → Kind
-  -- a store of zero to such an entry, at which a piece's word stands
+  -- `clear`: a store of zero to such an entry, at which a piece's word stands
   clear : (frame number : ℕ) → Piece → Kind
-  -- a store of zero to an entry of the table above the path's last one, which is linked there and is left and prepared
+  -- `unlink`: a store of zero to an entry of the table above the path's last one, which is linked there and is left and
+  -- prepared
   unlink : (frame number : ℕ) → Kind
-  -- stores to entry 0 of the prepared frame: the pointer to the old top, which is at this level, or zero again
+  -- `grow`: a store of the pointer to the old top, which is at this level, to entry 0 of the prepared frame; a store of
+  -- zero there again where the growth was lost; and between them an exchange of the root, from the old top to the
+  -- prepared frame, one level up
   bridge : (frame old level : ℕ) → Kind
   unbridge : (frame level : ℕ) → Kind
-  -- an exchange of the root, from the old top at this level to the prepared frame, one level up
   raise : (frame old level : ℕ) → Kind
 
 -- The word that a step is on.

@@ -9,7 +9,11 @@ use Rattle.pt_model.specs.Words.{frame_limit}
 use Rattle.pt_format.specs.Laws.{IsLayout, WordsDiffer}
 use Rattle.pt_format.specs.Manual.{StepsAgree}
 use Rattle.pt_view.specs.declared.view.View.{View}
-use Rattle.pt_view.specs.Views.{IsAtRest, book_of, linked_of, spent}
+use Rattle.pt_view.specs.declared.view.Node.{Node}
+use Rattle.pt_model.specs.declared.position.Position.{Position}
+use Rattle.pt_model.specs.Sets.{IsAmong}
+use Rattle.pt_view.specs.Lists.{IsIn}
+use Rattle.pt_view.specs.Views.{IsAtRest, SameBook, SamePurse, SameRange, book_of, linked_of, spent}
 use Rattle.pt_view.specs.Calls.{held_count, HasEveryFrame}
 use Rattle.pt_rule.specs.Lawful.{Lawful}
 use Rattle.pt_rule.specs.Kinds.{Kind, Keeps, KeepsCut, retrace}
@@ -30,6 +34,24 @@ StepsKeep = (f : Layout) → IsLayout f → WordsDiffer f → StepsAgree f → (
 -- a law holds too for a holder that has only the front of its seat's path
 abbrev pub FrontsKeep : Type 0
 FrontsKeep = (f : Layout) (n l : ℕ) (k : Kind) → Keeps f n l k → KeepsCut f n l k
+
+-- a view that forgets: it leaves the last tables of its path, and of the frames that it found busy and the positions that
+-- it found linked it knows these or fewer; what it tells of its histories may be anything
+pub record Forgets (v w : View) : Type 0 where
+  pub range : SameRange v w
+  pub book : SameBook v w
+  pub purse : SamePurse v w
+  pub prepared : w.prepared ≡ v.prepared
+  pub rest : List Node
+  pub path : v.path ≡ w.path ++ rest
+  pub busy : (frame : ℕ) → IsIn w.busy frame → IsIn v.busy frame
+  pub known : (p : Position) → IsAmong w.known p → IsAmong v.known p
+
+-- the rule holds too with what is left of a view that forgets
+abbrev pub ViewsForget : Type 0
+ViewsForget =
+    (f : Layout) (n l : ℕ) (words : List ℕ) (views : List View) (id : ℕ) (v w : View) → Lawful f n l words views → get_elem? views id ≡ some v →
+    0 < v.count → Forgets v w → Lawful f n l words (slice_set views id w)
 
 -- a view whose span is the whole space is the only live one, and the rule holds with it alone
 abbrev pub WholeIsAlone : Type 0

@@ -6,6 +6,7 @@ pub mod Kinds
 pub mod Opening
 pub mod Cuts
 pub mod Holds
+pub mod Meets
 pub mod Laws
 pub mod WholeView
 pub mod Union

@@ -8,9 +8,10 @@
 //! manual's walk of the words is the union of what the views map.
 #![tactic(auto)]
 
-ghost use Rattle.pt_rule.specs.Laws.{NewIsLawful, StepsKeep, FrontsKeep, SplitsKeep, JoinsKeep, ViewsHold, WholeIsAlone, WholeIsCounted, BooksAreLawful};
+ghost use Rattle.pt_rule.specs.Laws.{NewIsLawful, StepsKeep, FrontsKeep, ViewsForget, SplitsKeep, JoinsKeep, ViewsHold, WholeIsAlone, WholeIsCounted, BooksAreLawful};
 ghost use Rattle.pt_rule.specs.WholeView.{WholeIsRead};
 ghost use Rattle.pt_rule.specs.Union.{WalkIsUnion};
+ghost use Rattle.pt_rule.specs.Meets.{StepsMeet, UnlinkMeets, GrowMeets};
 
 /// A new space is lawful, with the one view of the whole space.
 pub fn new_is_lawful()
@@ -25,9 +26,24 @@ pub fn steps_keep()
     ensures { StepsKeep }
 {}
 
+/// What a holder's calls are: a step of each kind, where the number found tells what its kind says, does to the view
+/// what the trait's call that makes it says. `unlink` and `grow` are several steps in a row, each of which may be made
+/// after those before it.
+pub fn calls_meet()
+    ensures steps { StepsMeet }
+    ensures unlink { UnlinkMeets }
+    ensures grow { GrowMeets }
+{}
+
 /// What is said of a seat's step holds too of a step of a holder that has only the front of its seat's path.
 pub fn fronts_keep()
     ensures { FrontsKeep }
+{}
+
+/// A view may forget what it has met: the last tables of its path, frames that it found busy, positions that it found
+/// linked, and its histories.
+pub fn views_forget()
+    ensures { ViewsForget }
 {}
 
 /// A view that is cut in two at a page, where no block lies across it, keeps the rule as two views.

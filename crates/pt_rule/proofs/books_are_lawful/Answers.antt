@@ -1,5 +1,5 @@
-use Rattle.pt_rule.proofs.Resting.{resting}
+use Rattle.pt_rule.proofs.Laws.{books_are_lawful}
 use Rattle.pt_rule.proofs.books_are_lawful.Goals as goal
 
 pub returns : goal.returns
-returns c = resting
+returns c = books_are_lawful

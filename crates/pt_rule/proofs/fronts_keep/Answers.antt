@@ -1,5 +1,5 @@
-use Rattle.pt_rule.proofs.CutPaths.{keeps_cut}
+use Rattle.pt_rule.proofs.Laws.{fronts_keep}
 use Rattle.pt_rule.proofs.fronts_keep.Goals as goal
 
 pub returns : goal.returns
-returns c = λ f n l k law. keeps_cut f n l k law
+returns c = fronts_keep

@@ -1,4 +1,4 @@
-use Rattle.pt_rule.proofs.WalkUnion.{walk_is_union}
+use Rattle.pt_rule.proofs.Laws.{walk_is_union}
 use Rattle.pt_rule.proofs.walk_is_union.Goals as goal
 
 pub returns : goal.returns

@@ -1,5 +1,5 @@
-use Rattle.pt_rule.proofs.ReadWhole.{whole_read}
+use Rattle.pt_rule.proofs.Laws.{whole_is_read}
 use Rattle.pt_rule.proofs.whole_is_read.Goals as goal
 
 pub returns : goal.returns
-returns c = whole_read
+returns c = whole_is_read

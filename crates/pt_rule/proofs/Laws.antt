@@ -1,0 +1,68 @@
+-- The laws of the rule, as lemmas.
+use Rattle.std.proofs.Common.{[], ◌∙◌}
+use Rattle.atomic_table.proofs.Lists.{set_else}
+use Rattle.pt_rule.specs.Cuts.{joined}
+use Rattle.pt_rule.specs.Kinds.{retrace}
+use Rattle.pt_rule.specs.Laws.{BooksAreLawful, FrontsKeep, JoinsKeep, NewIsLawful, SplitsKeep, StepsKeep, ViewsForget, ViewsHold, WholeIsAlone, WholeIsCounted}
+use Rattle.pt_rule.specs.Meets.{GrowMeets, StepsMeet, UnlinkMeets}
+use Rattle.pt_rule.specs.Union.{WalkIsUnion}
+use Rattle.pt_rule.specs.WholeView.{WholeIsRead}
+use Rattle.pt_rule.proofs.AloneKept as whole
+use Rattle.pt_rule.proofs.CallsMeet as calls
+use Rattle.pt_rule.proofs.CountKept as frames
+use Rattle.pt_rule.proofs.CutPaths as fronts
+use Rattle.pt_rule.proofs.Forgotten as forgotten
+use Rattle.pt_rule.proofs.Holding as holding
+use Rattle.pt_rule.proofs.JoinKept as parts
+use Rattle.pt_rule.proofs.Kept as steps
+use Rattle.pt_rule.proofs.OpeningKept as opening
+use Rattle.pt_rule.proofs.ReadWhole as read
+use Rattle.pt_rule.proofs.Resting as books
+use Rattle.pt_rule.proofs.SplitKept as halves
+use Rattle.pt_rule.proofs.WalkUnion as walk
+
+pub new_is_lawful : NewIsLawful
+new_is_lawful f n l hold words good limit room low high new = opening.opens f good n l hold words limit room low high new
+
+pub steps_keep : StepsKeep
+steps_keep = steps.kept
+
+pub fronts_keep : FrontsKeep
+fronts_keep f n l k keeps = fronts.keeps_cut f n l k keeps
+
+pub steps_meet : StepsMeet
+steps_meet = calls.steps_meet
+
+pub unlink_meets : UnlinkMeets
+unlink_meets = calls.unlink_meets
+
+pub grow_meets : GrowMeets
+grow_meets = calls.grow_meets
+
+pub views_forget : ViewsForget
+views_forget = forgotten.views_forget
+
+pub views_hold : ViewsHold
+views_hold f good n l words views id v r at live = holding.holds_of f good n l words views r id v at live
+
+pub splits_keep : SplitsKeep
+splits_keep f good n l words views id v at kept r here live may = halves.splits f good n l words views id v at kept r here live may
+
+pub joins_keep : JoinsKeep
+joins_keep f good n l words views id other v w r here apart there live live' may = parts.joins f good n l words views id other v w r here apart
+    (set_else views id other (joined (retrace [] v) (retrace [] w)) apart ∙ there) live live' may
+
+pub whole_is_alone : WholeIsAlone
+whole_is_alone f n l words views id v r at span = (whole.alone f n l words views id v r at span, whole.only_live f n l words views id v r at span)
+
+pub whole_is_counted : WholeIsCounted
+whole_is_counted = frames.counted
+
+pub whole_is_read : WholeIsRead
+whole_is_read = read.whole_read
+
+pub books_are_lawful : BooksAreLawful
+books_are_lawful = books.resting
+
+pub walk_is_union : WalkIsUnion
+walk_is_union = walk.walk_is_union
