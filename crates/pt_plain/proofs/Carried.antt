@@ -1,121 +1,138 @@
--- What a step says of a view holds of one that agrees with it but for what it notes.
-use Rattle.std.proofs.Common.{◌≡◌, ◌≢◌, ◌⊎◌, inl, inr, ℕ, true, false, ◌+◌, ◌-◌, ◌<◌, ◌≤◌, List, [], ◌∷◌, length, refl, ap, sym, ◌∙◌, subst, arith, ⊎_elim}
-use Rattle.std.specs.Prelude.{IsTrue, Bool, map, nat_le, nat_lt, ◌&&◌, ◌||◌}
-use Rattle.std.proofs.lemmas.Bool.{and_parts, leb-true, ltb-true}
-use mathlib.Core.Logic.{dite}
-use native.Mathlib.Decide.{ℕ_discrete}
+-- What a step says of a view holds of one that agrees with it, over a holder of the whole space that tells no histories.
+use Rattle.std.proofs.Common.{◌≡◌, ℕ, Bool, ◌∙◌, ap, sym, List, ◌∷◌, true, false, [], ◌++◌}
+use Rattle.std.specs.Prelude.{◌↔◌}
 use Rattle.pt_model.specs.declared.position.Position.{Position}
 use Rattle.pt_model.specs.Layout.{Layout}
-use Rattle.pt_model.specs.Tables.{add_position, is_spine, levels_between, spine_position, starting_top}
-use Rattle.pt_model.proofs.Positions.{add_after, add_before, before_order}
-use Rattle.pt_model.specs.Words.{root_level, tag}
+use Rattle.pt_model.specs.Sets.{AddsPositions, SamePositions}
 use Rattle.pt_view.specs.declared.view.View.{View}
-use Rattle.pt_model.specs.Sets.{AddsPositions, IsAmong, SamePositions, places}
-use Rattle.pt_view.specs.Lists.{AddsFrame, IsIn, SameFrames}
+use Rattle.pt_view.specs.declared.holder.Seen.{Seen}
+use Rattle.pt_view.specs.declared.holder.Seen.TheVariants.{Empty, Leaf, Entered}
+use Rattle.pt_view.specs.declared.holder.Won.{Won}
+use Rattle.pt_view.specs.declared.holder.Won.TheVariants.{Yes, Met}
 use Rattle.pt_view.specs.Views.{SameBook, SamePurse, SameRange}
-use Rattle.pt_rule.specs.Totals.{has_table, total}
-use Rattle.pt_rule.specs.Lawful.{Lawful}
-use Rattle.pt_rule.proofs.TotalsKept.{among_here, among_more}
-use Rattle.pt_rule.proofs.RootKept.{among_append}
-use Rattle.pt_rule.proofs.CallsRooted.{among_left, among_right, among_spine, spine_back}
-use Rattle.pt_plain.specs.Owner.{busy_in, known_in}
-use Rattle.pt_plain.proofs.Chains.{busy_tag, tag_busy}
+use Rattle.pt_view.specs.Calls.{IsInstalled, IsPlaced, IsTaken, IsUnplaced, IsWritten, Looked, Prepares, Rooted, Takes, Went, zero, leaf, table}
+use Rattle.pt_rule.specs.Meets.{Always, IsWhole}
+use Rattle.pt_plain.proofs.ReadBack.{Agrees}
 
-pub range_on : (u v w : View) → SameRange v u → SameRange u w → SameRange v w
-range_on u v w a b = record { frames = b.frames ∙ a.frames; levels = b.levels ∙ a.levels; first = b.first ∙ a.first; count = b.count ∙ a.count }
+through : {A B C : Type 0} → (B ↔ A) → (C ↔ B) → (C ↔ A)
+through b c = (λ h. b.0 (c.0 h), λ h. c.1 (b.1 h))
 
-pub book_on : (u v w : View) → SameBook v u → SameBook u w → SameBook v w
-book_on u v w a b = record { pieces = b.pieces ∙ a.pieces; tables = b.tables ∙ a.tables; top = b.top ∙ a.top }
+pub range_on : {u v w : View} → SameRange v u → SameRange u w → SameRange v w
+range_on a b = record { frames = b.frames ∙ a.frames; levels = b.levels ∙ a.levels; first = b.first ∙ a.first; count = b.count ∙ a.count }
 
-pub purse_on : (u v w : View) → SamePurse v u → SamePurse u w → SamePurse v w
-purse_on u v w a b = record { purse = b.purse ∙ a.purse; end = b.end ∙ a.end }
+pub book_on : {u v w : View} → SameBook v u → SameBook u w → SameBook v w
+book_on a b = record { pieces = b.pieces ∙ a.pieces; tables = b.tables ∙ a.tables; top = b.top ∙ a.top }
 
--- Known positions.
+pub purse_on : {u v w : View} → SamePurse v u → SamePurse u w → SamePurse v w
+purse_on a b = record { purse = b.purse ∙ a.purse; end = b.end ∙ a.end }
 
-abbrev pub KnowsAll : View → Type 0
-KnowsAll v = v.known ≡ known_in v.levels v.tables v.top
+takes_on : (won : Bool) (frame : ℕ) (v u w : View) → Agrees u w → Takes won Always frame v u → Takes won ⊥ frame v w
+takes_on true frame v u w a t = (a.purse.purse ∙ t.0, λ no. absurd no)
+takes_on false frame v u w a t = (a.purse.purse ∙ t.0, λ no. absurd no)
 
--- views with the same book know the same positions
-pub same_known : (v w : View) → KnowsAll v → KnowsAll w → SameRange v w → SameBook v w → w.known ≡ v.known
-same_known v w a b range book = b ∙ (λ i. known_in (range.levels i) (book.tables i) (book.top i)) ∙ sym a
+prepares_on : (won : Won) (v u w : View) → Agrees u w → Prepares won v u → Prepares won v w
+prepares_on Yes v u w a e = a.prepared ∙ e
+prepares_on Met v u w a e = a.prepared ∙ e
 
-pub known_kept : (v w : View) → KnowsAll v → KnowsAll w → SameRange v w → SameBook v w → SamePositions v.known w.known
-known_kept v w a b range book p =
-    let e = same_known v w a b range book in (λ h. subst (λ (ps : List Position). IsAmong ps p) e h, λ h. subst (λ (ps : List Position). IsAmong ps p) (sym e) h)
+module _ {v u w : View} (a : Agrees u w) where
+  pub placed_on : {p : Position} → IsPlaced Always v p u → IsPlaced ⊥ v p w
+  placed_on r = record {
+    range = range_on r.range a.range;
+    book = book_on r.book a.book;
+    path = a.path ∙ r.path;
+    purse = (r.purse.0, r.purse.1 ∙ ap (λ (xs : List ℕ). r.purse.0 ∷ xs) (sym a.purse.purse), a.prepared ∙ r.purse.2);
+    end = a.purse.end ∙ r.end;
+    busy = λ x. through (r.busy x) (a.busy x);
+    known = λ p. through (r.known p) (a.known p);
+    told = λ no. absurd no;
+  }
 
--- a table is known, and a spine position up to the top
-pub known_table : (l : ℕ) (tables : List Position) (top : ℕ) (p : Position) → IsAmong tables p → IsAmong (known_in l tables top) p
-known_table l tables top p h = among_left p tables (map spine_position (levels_between (starting_top l) top)) h
+  pub unplaced_on : IsUnplaced Always v u → IsUnplaced ⊥ v w
+  unplaced_on r = record {
+    range = range_on r.range a.range;
+    book = book_on r.book a.book;
+    path = a.path ∙ r.path;
+    purse = λ x e. a.purse.purse ∙ r.purse x e;
+    none = a.prepared ∙ r.none;
+    end = a.purse.end ∙ r.end;
+    busy = λ x. through (r.busy x) (a.busy x);
+    known = λ p. through (r.known p) (a.known p);
+    told = λ no. absurd no;
+  }
 
-pub known_spine : (l : ℕ) (tables : List Position) (top : ℕ) (p : Position) → IsTrue (is_spine l p) → p.level ≤ top → IsAmong (known_in l tables top) p
-known_spine l tables top p s up =
-    let spine : List Position = map spine_position (levels_between (starting_top l) top) in
-    let b : (starting_top l ≤ p.level) × (p ≡ spine_position p.level) = spine_back l p s in
-    let low = b.0 in
-    among_right p tables spine (subst (IsAmong spine) (sym b.1) (among_spine (top + 1 - starting_top l) (starting_top l) p.level low (omega arith)))
+  pub taken_on : {frame : ℕ} {won : Bool} → IsTaken Always frame v won u → IsTaken ⊥ frame v won w
+  taken_on {frame = frame} {won = won} r = record {
+    range = range_on r.range a.range;
+    book = book_on r.book a.book;
+    path = a.path ∙ r.path;
+    prepared = a.prepared ∙ r.prepared;
+    end = a.purse.end ∙ r.end;
+    takes = takes_on won frame v u w a r.takes;
+    busy = λ x. through (r.busy x) (a.busy x);
+    known = λ p. through (r.known p) (a.known p);
+    told = λ no. absurd no;
+  }
 
-or_parts : (a b : Bool) → (a || b) ≡ true → (a ≡ true) ⊎ (b ≡ true)
-or_parts true b h = inl refl
-or_parts false b h = inr h
+module _ {f : Layout} {v u w : View} (a : Agrees u w) where
+  pub rooted_on : {level : ℕ} → IsWhole f v → Rooted f Always (IsWhole f v) v level u → Rooted f ⊥ (Unit {0}) v level w
+  rooted_on whole r = record {
+    range = range_on r.range a.range;
+    book = book_on r.book a.book;
+    purse = purse_on r.purse a.purse;
+    prepared = a.prepared ∙ r.prepared;
+    path = (r.path.0, a.path ∙ r.path.1);
+    busy = λ x. through (r.busy x) (a.busy x);
+    known = λ p. through (r.known p) (a.known p);
+    told = λ no. absurd no;
+    legal = r.legal;
+    reaches = r.reaches;
+    over_tables = r.over_tables;
+    over_known = r.over_known;
+    exact = λ _. r.exact whole;
+  }
 
--- what a lawful view of the whole space knows is of its tables, or of the spine up to its top
-pub known_there : (f : Layout) (n l : ℕ) (words : List ℕ) (u : View) → Lawful f n l words (u ∷ []) → u.levels ≡ l → u.top ≡ root_level words →
-    (p : Position) → IsAmong u.known p → IsAmong (known_in u.levels u.tables u.top) p
-known_there f n l words u r levels top p a = ⊎_elim
-    (λ (s : (is_spine l p && nat_le p.level (root_level words)) ≡ true).
-    let b : (is_spine l p ≡ true) × (nat_le p.level (root_level words) ≡ true) = and_parts (is_spine l p) (nat_le p.level (root_level words)) s in
-    let up : p.level ≤ root_level words = leb-true p.level (root_level words) b.1 in
-    known_spine u.levels u.tables u.top p (subst (λ (k : ℕ). IsTrue (is_spine k p)) (sym levels) b.0) (omega arith))
-    (λ (t : nat_lt 0 (total (has_table p) (u ∷ [])) ≡ true).
-    let some_one : 0 < total (has_table p) (u ∷ []) = ltb-true 0 (total (has_table p) (u ∷ [])) t in
-    known_table u.levels u.tables u.top p (let h : 0 < places p u.tables = omega arith in h))
-    (or_parts (is_spine l p && nat_le p.level (root_level words)) (nat_lt 0 (total (has_table p) (u ∷ []))) (r.known 0 u refl p a).0)
+  looked_on : {p : Position} {number : ℕ} (seen : Seen) → IsWhole f v → Looked f Always (IsWhole f v) v p number seen u → Looked f ⊥ (Unit {0}) v p number seen w
+  looked_on Empty whole (zero x path known vacant told) = zero w (a.path ∙ path) (λ p. through (known p) (a.known p)) vacant (λ no. absurd no)
+  looked_on (Leaf word) whole (leaf x word' piece path known told member at once is) =
+      leaf w word piece (a.path ∙ path) (λ p. through (known p) (a.known p)) (λ no. absurd no) member at once is
+  looked_on Entered whole (table x frame path known told high none owned) =
+      table w frame (a.path ∙ path) (λ p. through (known p) (a.known p)) (λ no. absurd no) high none (λ _. owned whole)
 
--- positions that joined what a view knows are those that joined what its owner knows
-pub known_adds : (f : Layout) (n l : ℕ) (words : List ℕ) (v u w : View) (Joins : Position → Type 0) → Lawful f n l words (u ∷ []) → u.levels ≡ l → u.top ≡ root_level words →
-    KnowsAll w → SameRange u w → SameBook u w → AddsPositions v.known u.known Joins → ((p : Position) → IsAmong w.known p → Joins p ⊎ IsAmong v.known p) → AddsPositions v.known w.known Joins
-known_adds f n l words v u w Joins r levels top all range book adds back p = (
-  back p,
-  λ h. subst (λ (ps : List Position). IsAmong ps p) (sym (all ∙ (λ i. known_in (range.levels i) (book.tables i) (book.top i)))) (known_there f n l words u r levels top p ((adds p).1 h)),
-)
+  pub went_on : {number : ℕ} {seen : Seen} → IsWhole f v → Went f Always (IsWhole f v) number v seen u → Went f ⊥ (Unit {0}) number v seen w
+  went_on {seen = seen} whole r = record {
+    range = range_on r.range a.range;
+    book = book_on r.book a.book;
+    purse = purse_on r.purse a.purse;
+    prepared = a.prepared ∙ r.prepared;
+    busy = λ x. through (r.busy x) (a.busy x);
+    looked = λ p entry. looked_on seen whole (r.looked p entry);
+  }
 
--- Busy frames.
+  pub installed_on : {number : ℕ} {won : Won} → IsInstalled f Always number v won u → IsInstalled f ⊥ number v won w
+  installed_on {won = won} r = record {
+    range = range_on r.range a.range;
+    pieces = a.book.pieces ∙ r.pieces;
+    top = a.book.top ∙ r.top;
+    purse = purse_on r.purse a.purse;
+    prepares = prepares_on won v u w a r.prepares;
+    busy = λ x. through (r.busy x) (a.busy x);
+    tables = λ p entry. a.book.tables ∙ r.tables p entry;
+    path = λ p entry. ((r.path p entry).0, a.path ∙ (r.path p entry).1);
+    known = λ p entry q. through (r.known p entry q) (a.known q);
+    told = λ no. absurd no;
+  }
 
--- the same frames aren't free
-pub busy_same : (words words' : List ℕ) (n : ℕ) → ((g : ℕ) → g < n → tag words' g ≢ 0 → tag words g ≢ 0) → ((g : ℕ) → g < n → tag words g ≢ 0 → tag words' g ≢ 0) →
-    SameFrames (busy_in words n) (busy_in words' n)
-busy_same words words' n back to x = (
-  λ h. let a : (x < n) × (tag words' x ≢ 0) = busy_tag words' n x h in tag_busy words n x a.0 (back x a.0 a.1),
-  λ h. let a : (x < n) × (tag words x ≢ 0) = busy_tag words n x h in tag_busy words' n x a.0 (to x a.0 a.1),
-)
-
--- one frame more isn't free
-pub busy_adds : (words words' : List ℕ) (n frame : ℕ) → frame < n → tag words' frame ≢ 0 → ((g : ℕ) → g ≢ frame → tag words' g ≡ tag words g) →
-    AddsFrame (busy_in words n) (busy_in words' n) frame
-busy_adds words words' n frame within here else_same x = (
-  λ h. let a : (x < n) × (tag words' x ≢ 0) = busy_tag words' n x h in
-      dite (ℕ_discrete x frame) (λ e. inl e) (λ ne. inr (tag_busy words n x a.0 (λ z. a.1 (else_same x ne ∙ z)))),
-  λ h. dite (ℕ_discrete x frame)
-      (λ e. subst (IsIn (busy_in words' n)) (sym e) (tag_busy words' n frame within here))
-      (λ ne. ⊎_elim (λ (e : x ≡ frame). absurd (ne e))
-      (λ (old : IsIn (busy_in words n) x). let a : (x < n) × (tag words x ≢ 0) = busy_tag words n x old in tag_busy words' n x a.0 (λ z. a.1 (sym (else_same x ne) ∙ z))) h),
-)
-
--- Views whose tables or pieces differ.
-
--- with the same tables and top a view knows the same positions
-pub known_same : (v w : View) → KnowsAll v → KnowsAll w → SameRange v w → w.tables ≡ v.tables → w.top ≡ v.top → SamePositions v.known w.known
-known_same v w a b range tables top p =
-    let e : w.known ≡ v.known = b ∙ (λ i. known_in (range.levels i) (tables i) (top i)) ∙ sym a in
-    (λ h. subst (λ (ps : List Position). IsAmong ps p) e h, λ h. subst (λ (ps : List Position). IsAmong ps p) (sym e) h)
-
--- what a view with more tables knows is one of these, or was known
-pub known_back : (v w : View) (Joins : Position → Type 0) → KnowsAll v → KnowsAll w → SameRange v w → w.top ≡ v.top → ((p : Position) → IsAmong w.tables p → Joins p ⊎ IsAmong v.tables p) →
-    (p : Position) → IsAmong w.known p → Joins p ⊎ IsAmong v.known p
-known_back v w Joins a b range top tables p h = ⊎_elim
-    (λ (t : IsAmong w.tables p). ⊎_elim (λ (j : Joins p). inl j)
-    (λ (old : IsAmong v.tables p). inr (subst (λ (ps : List Position). IsAmong ps p) (sym a) (known_table v.levels v.tables v.top p old))) (tables p t))
-    (λ (s : IsAmong (map spine_position (levels_between (starting_top w.levels) w.top)) p).
-    inr (subst (λ (ps : List Position). IsAmong ps p) (sym a) (among_right p v.tables (map spine_position (levels_between (starting_top v.levels) v.top))
-    (subst (λ (ps : List Position). IsAmong ps p) (λ i. map spine_position (levels_between (starting_top (range.levels i)) (top i))) s))))
-    (among_append p w.tables (map spine_position (levels_between (starting_top w.levels) w.top)) (subst (λ (ps : List Position). IsAmong ps p) b h))
+  pub written_on : {number word : ℕ} → IsWritten f Always number word v u → IsWritten f ⊥ number word v w
+  written_on r = record {
+    range = range_on r.range a.range;
+    purse = purse_on r.purse a.purse;
+    path = a.path ∙ r.path;
+    prepared = a.prepared ∙ r.prepared;
+    busy = λ x. through (r.busy x) (a.busy x);
+    known = λ p. through (r.known p) (a.known p);
+    tables = a.book.tables ∙ r.tables;
+    pieces = λ y is put. a.book.pieces ∙ r.pieces y is put;
+    top = λ y is put. a.book.top ∙ r.top y is put;
+    stores = λ no. absurd no;
+    told = λ no. absurd no;
+  }

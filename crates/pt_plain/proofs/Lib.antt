@@ -1,14 +1,15 @@
-pub mod Chains
-pub mod Paths
-pub mod ReadBack
-pub mod OwnerFacts
-pub mod Carried
-pub mod FixedRoot
-pub mod OwnerPath
-pub mod OwnerEntry
-pub mod OwnerEnter
-pub mod Stored
-pub mod OwnerTags
-pub mod OwnerStores
-pub mod NewWords
-pub mod OwnerRuns
+mod Laws
+mod Chains
+mod Paths
+mod Known
+mod Matches
+mod Owners
+mod ReadBack
+mod Carried
+mod Steps
+mod Stored
+mod PathCalls
+mod TagCalls
+mod EntryCalls
+mod RunCalls
+mod NewWords

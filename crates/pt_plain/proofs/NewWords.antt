@@ -1,22 +1,24 @@
 -- The words of a new space, and its view.
 use Rattle.std.proofs.Common.{◌≡◌, ℕ, zero, suc, ◌+◌, ◌*◌, ◌%◌, ◌<◌, ◌≤◌, List, [], ◌∷◌, length, refl, ap, sym, ◌∙◌, subst, arith, get_or-set_same, get_or-set_other, length-set}
-use Rattle.std.specs.Prelude.{None, Some, slice_index, slice_set}
-use Rattle.pt_model.specs.Layout.{Layout}
+use Rattle.std.specs.Prelude.{Option, None, Some, slice_index, slice_set}
+use Rattle.pt_model.specs.Layout.{Layout, input_pages}
 use Rattle.pt_model.specs.Tables.{spine_position, starting_top}
 use Rattle.pt_model.specs.Words.{entry_place, frame_limit, placed_word, root_level, tag, word_count}
 use Rattle.pt_model.proofs.Places.{entry_within, tag_else}
 use mathlib.Core.Logic.{dite}
 use native.Mathlib.Decide.{ℕ_discrete}
-use Rattle.pt_format.specs.Laws.{IsLayout, WordsDiffer}
-use Rattle.pt_format.specs.Manual.{StepsAgree}
+use Rattle.pt_format.specs.Laws.{IsLayout}
 use Rattle.pt_view.specs.declared.view.View.{View}
 use Rattle.pt_rule.specs.Tags.{first_or, held_word}
 use Rattle.pt_rule.specs.Lawful.{Lawful}
 use Rattle.pt_rule.specs.Opening.{IsNew, counting, opening_view}
-use Rattle.pt_rule.proofs.OpeningKept.{opens}
-use Rattle.pt_plain.specs.Owner.{IsOpened, IsOwner, owner_view}
+use Rattle.pt_rule.proofs.Laws.{new_is_lawful}
+use Rattle.pt_plain.specs.Owner.{Fields, HasWholeSpan, IsOpened, IsOwner, aside_of, none_aside, span_view, whole_view}
+use Rattle.pt_plain.proofs.Laws.{Laws}
+use Rattle.pt_plain.proofs.Matches.{Matches}
+use Rattle.pt_plain.proofs.Owners.{aside_none, span_whole}
 use Rattle.pt_plain.specs.Chains.{IsChain, IsKept, NamesNext}
-use Rattle.pt_plain.proofs.ReadBack.{Matches, agrees, owner}
+use Rattle.pt_plain.proofs.ReadBack.{book_is, owner, range_is, same_path, same_prepared, same_purse}
 
 -- one frame more names the next
 pub names_more : (words : List ℕ) (frame : ℕ) → NamesNext words frame → 1 + frame < length words → NamesNext (slice_set words (1 + frame) (held_word (Some (frame + 1)))) (frame + 1)
@@ -43,7 +45,7 @@ counting_length : (from count : ℕ) → length (counting from count) ≡ count
 counting_length from zero = refl
 counting_length from (suc count) = ap suc (counting_length (from + 1) count)
 
-module _ (f : Layout) (good : IsLayout f) (n l hold : ℕ) (zeros words : List ℕ) (some : 1 ≤ n) (limit : n ≤ frame_limit f) (room : hold < n) (low : f.start ≤ l) (high : l ≤ f.levels)
+module _ (f : Layout) (good : IsLayout f) (n l hold : ℕ) (zeros words : List ℕ) (room : hold < n) (low : f.start ≤ l) (high : l ≤ f.levels)
     (long : length zeros ≡ word_count f n) (zero_all : (at : ℕ) → at < word_count f n → slice_index zeros at ≡ 0) where
   abbrev top : ℕ
   top = starting_top l
@@ -72,44 +74,75 @@ module _ (f : Layout) (good : IsLayout f) (n l hold : ℕ) (zeros words : List �
       cleared = λ frame number lt small. zero_at (entry_place f n frame number) (omega arith) (entry_within f n frame number lt small);
     }
 
-    module _ (differ : WordsDiffer f) (agree : StepsAgree f) (path : List ℕ) (eight : length path ≡ 8) where
-      abbrev u : View
-      u = opening_view f n l hold
+-- what a new space's words and fields are
+abbrev pub fields_of : Layout → (n l hold : ℕ) → (words : List ℕ) → (head : Option ℕ) → (path : List ℕ) → Fields
+fields_of f n l hold words head path = record {
+  words = words;
+  frames = n;
+  levels = l;
+  first = 0;
+  count = input_pages f;
+  head = head;
+  held = hold;
+  path = path;
+  level = l;
+  prepared = None;
+}
 
-      abbrev w : View
-      w = owner_view f n l words (first_or None (counting 1 hold)) hold path l None
+pub record Made (f : Layout) (n l hold : ℕ) (words : List ℕ) (head : Option ℕ) (path : List ℕ) : Type 0 where
+  pub owner : IsOwner f (fields_of f n l hold words head path)
+  pub opened : IsOpened f n l hold (span_view f (fields_of f n l hold words head path))
+  pub aside : aside_of f (fields_of f n l hold words head path) ≡ none_aside
 
-      lawful_u : Lawful f n l words (u ∷ [])
-      lawful_u = opens f good n l hold words limit room low high new_words
+module _ {f : Layout} (laws : Laws f) {n l hold : ℕ} {words : List ℕ} (new : IsNew f n l hold words) (limit : n ≤ frame_limit f) (room : hold < n) (low : f.start ≤ l) (high : l ≤ f.levels)
+    (path : List ℕ) (eight : length path ≡ 8) where
+  abbrev u : View
+  u = opening_view f n l hold
 
-      root_level_is : root_level words + 1 ≡ l
-      root_level_is =
-          let e : root_level words ≡ (0 * 8 + top) % 8 = ap (λ (z : ℕ). z % 8) new_words.root in
-          let a = good.levels_high in let b = good.start_low in omega arith
+  abbrev o : Fields
+  o = fields_of f n l hold words (first_or None (counting 1 hold)) path
 
-      matches_u : Matches words u (first_or None (counting 1 hold)) hold path l None
-      matches_u = record {
-        end = refl;
-        first_is = refl;
-        held_is = counting_length 1 hold;
-        follows = tt;
-        depth = let e = root_level_is in omega arith;
-        eight = eight;
-        prepared_is = refl;
-        plain = tt;
+  lawful_u : Lawful f n l words (u ∷ [])
+  lawful_u = new_is_lawful f n l hold words laws.layout limit room low high new
+
+  root_level_is : root_level words + 1 ≡ l
+  root_level_is =
+      let e : root_level words ≡ (0 * 8 + starting_top l) % 8 = ap (λ (z : ℕ). z % 8) new.root in
+      let a = laws.layout.levels_high in let b = laws.layout.start_low in omega arith
+
+  matches_u : Matches o u
+  matches_u = record {
+    purse = record { first_is = refl; held_is = counting_length 1 hold; end = refl };
+    path = record { follows = tt; depth = (let e = root_level_is in omega arith); eight = eight };
+    prepared = record { is = refl; plain = tt };
+  }
+
+  span : HasWholeSpan f 0 (input_pages f)
+  span = record { first_is = refl; count_is = refl }
+
+  new_owner : IsOwner f o
+  new_owner = owner laws lawful_u refl span matches_u
+
+  opened : IsOpened f n l hold (whole_view f o)
+  opened =
+      let range = range_is laws lawful_u refl span matches_u in
+      let book = book_is laws lawful_u refl span matches_u in
+      let purse = same_purse laws lawful_u refl span matches_u in
+      record {
+        frames = range.frames;
+        levels = range.levels;
+        first = range.first;
+        count = range.count;
+        rest = record {
+          path = same_path laws lawful_u refl span matches_u;
+          prepared = same_prepared laws lawful_u refl span matches_u;
+          end = purse.end;
+          pieces = book.pieces;
+        };
+        tables = book.tables;
+        top = book.top;
+        purse = purse.purse;
       }
 
-      pub new_owner : IsOwner f n l words (first_or None (counting 1 hold)) hold path l None
-      new_owner = owner f good differ agree n l words u lawful_u refl (first_or None (counting 1 hold)) hold path l None matches_u
-
-      pub opened : IsOpened f n l hold w
-      opened = let a = agrees f good differ agree n l words u lawful_u refl (first_or None (counting 1 hold)) hold path l None matches_u in record {
-        frames = a.range.frames;
-        levels = a.range.levels;
-        first = a.range.first;
-        count = a.range.count;
-        rest = record { path = a.path; prepared = a.prepared; end = a.purse.end; pieces = a.book.pieces };
-        tables = a.book.tables;
-        top = a.book.top;
-        purse = a.purse.purse;
-      }
+  pub makes : Made f n l hold words (first_or None (counting 1 hold)) path
+  makes = record { owner = new_owner; opened = subst (IsOpened f n l hold) (sym (span_whole new_owner)) opened; aside = aside_none new_owner }

@@ -1,5 +1,6 @@
--- What the words of one owner, and the few fields beside them, say: the one view of the whole space.
-use Rattle.std.specs.Prelude.{◌≡◌, ℕ, zero, suc, ◌+◌, ◌-◌, ◌*◌, ◌/◌, ◌≤◌, ◌==◌, List, [], ◌∷◌, ◌++◌, length, map, Option, Some, None, slice_index, slice_set, if◌then◌else◌}
+-- What the words of one owner, and the few fields beside them, say: the rule's view of the whole space, the holder's
+-- view of its span, and what is set aside.
+use Rattle.std.specs.Prelude.{◌≡◌, ℕ, zero, suc, ◌+◌, ◌-◌, ◌*◌, ◌/◌, ◌≤◌, ◌==◌, List, [], ◌∷◌, ◌++◌, length, map, filter, not, ◌&&◌, Option, Some, None, slice_index, slice_set, if◌then◌else◌}
 use Rattle.pt_model.specs.declared.position.Position.{Position}
 use Rattle.pt_model.specs.declared.block.Block.{Block}
 use Rattle.pt_model.specs.Layout.{Layout, input_pages}
@@ -8,16 +9,35 @@ use Rattle.pt_model.specs.Words.{tag, placed_at, root_level}
 use Rattle.pt_view.specs.declared.view.View.{View}
 use Rattle.pt_view.specs.declared.view.Node.{Node}
 use Rattle.pt_view.specs.declared.view.Prepared.{Prepared}
-use Rattle.pt_view.specs.Views.{IsAtRest}
+use Rattle.pt_model.specs.Book.{lies_in}
+use Rattle.pt_view.specs.declared.view.Piece.{Piece}
+use Rattle.pt_view.specs.Views.{Aside, IsAtRest}
+use Rattle.pt_rule.specs.Cuts.{is_near, table_in}
 use Rattle.pt_rule.specs.Tags.{first_or}
 use Rattle.pt_rule.specs.Lawful.{Lawful}
 use Rattle.pt_rule.specs.Opening.{counting}
 use Rattle.pt_rule.specs.WholeView.{tables_in, pieces_in}
 
--- what callers see: the words, and the one view
+-- The fields of an owner: the words, the frames of the space and the levels that it started with; the span; the first
+-- of the frames held, and their number; the frame of the table of each level of the path, down to `level`; the frame
+-- that is about to be linked. While none has been narrowed the span is the whole space.
+pub record Fields : Type 0 where
+  pub words : List ℕ
+  pub frames : ℕ
+  pub levels : ℕ
+  pub first : ℕ
+  pub count : ℕ
+  pub head : Option ℕ
+  pub held : ℕ
+  pub path : List ℕ
+  pub level : ℕ
+  pub prepared : Option ℕ
+
+-- what callers see: the words, the holder's view of its span, and what is set aside outside it
 pub record Owned : Type 0 where
   pub words : List ℕ
   pub view : View
+  pub aside : Aside
 
 -- words of which `count` from a place on are set: the first to `word`, each next one to `step` more
 abbrev pub set_run : (words : List ℕ) → (place count word step : ℕ) → List ℕ
@@ -58,37 +78,73 @@ busy_in words (suc frame) = if tag words frame == 0 then busy_in words frame els
 abbrev pub known_in : (l : ℕ) → (tables : List Position) → (top : ℕ) → List Position
 known_in l tables top = tables ++ map spine_position (levels_between (starting_top l) top)
 
--- The view of one owner: `head` is the first of its `held` frames, `path` has the frame of each table of its
--- path by level, down to `level`, and `prepared` is the frame that it is about to link.
-unfoldable pub owner_view : Layout → (n l : ℕ) → (words : List ℕ) → (head : Option ℕ) → (held : ℕ) → (path : List ℕ) → (level : ℕ) → (prepared : Option ℕ) → View
-owner_view f n l words head held path level prepared = record {
-  frames = n;
-  levels = l;
+-- The rule's view of one owner, which spans the whole space.
+unfoldable pub whole_view : Layout → Fields → View
+whole_view f o = record {
+  frames = o.frames;
+  levels = o.levels;
   first = 0;
   count = input_pages f;
-  pieces = pieces_in f n prepared words n;
-  tables = tables_in l prepared words n;
-  top = root_level words;
-  purse = chain_of words head held;
+  pieces = pieces_in f o.frames o.prepared o.words o.frames;
+  tables = tables_in o.levels o.prepared o.words o.frames;
+  top = root_level o.words;
+  purse = chain_of o.words o.head o.held;
   end = None;
-  path = nodes_down words path level (root_level words + 1 - level);
-  prepared = prepared_at words prepared;
-  busy = busy_in words n;
-  known = known_in l (tables_in l prepared words n) (root_level words);
+  path = nodes_down o.words o.path o.level (root_level o.words + 1 - o.level);
+  prepared = prepared_at o.words o.prepared;
+  busy = busy_in o.words o.frames;
+  known = known_in o.levels (tables_in o.levels o.prepared o.words o.frames) (root_level o.words);
   taken = [];
   absent = [];
   stores = [];
 }
 
+-- the part of a view in a span: its pieces there, the tables that meet it, and what is known there or of the spine
+abbrev pub part_in : Layout → (first count : ℕ) → View → View
+part_in f first count v = record v {
+  first = first;
+  count = count;
+  pieces = filter (λ x. lies_in first (first + count) x.block) v.pieces;
+  tables = filter (table_in f first (first + count)) v.tables;
+  known = filter (is_near f v.levels first (first + count)) v.known;
+}
+
+-- what of it is outside: the blocks, and the tables that don't meet the span
+abbrev pub outside : Layout → (first count : ℕ) → View → Aside
+outside f first count v = record {
+  blocks = map (λ (x : Piece). x.block) (filter (λ x. (x.part == 0) && not (lies_in first (first + count) x.block)) v.pieces);
+  positions = filter (λ p. not (table_in f first (first + count) p)) v.tables;
+}
+
+-- the holder's view, and what it has set aside
+abbrev pub span_view : Layout → Fields → View
+span_view f o = part_in f o.first o.count (whole_view f o)
+
+abbrev pub aside_of : Layout → Fields → Aside
+aside_of f o = outside f o.first o.count (whole_view f o)
+
+abbrev pub owned : Layout → Fields → Owned
+owned f o = record { words = o.words; view = span_view f o; aside = aside_of f o }
+
+-- the span is the whole space
+pub record HasWholeSpan (f : Layout) (first count : ℕ) : Type 0 where
+  pub first_is : first ≡ 0
+  pub count_is : count ≡ input_pages f
+
 -- What holds of the fields: the words meet the rule with the view, the purse is all of the chain, and the
 -- table of each level of the path is placed at that level.
-pub record IsOwner (f : Layout) (n l : ℕ) (words : List ℕ) (head : Option ℕ) (held : ℕ) (path : List ℕ) (level : ℕ) (prepared : Option ℕ) : Type 0 where
-  pub lawful : Lawful f n l words (owner_view f n l words head held path level prepared ∷ [])
-  pub first_is : first_or None (chain_of words head held) ≡ head
-  pub held_is : length (chain_of words head held) ≡ held
-  pub low : level ≤ root_level words + 1
-  pub levels_are : (at : ℕ) → level ≤ at → at ≤ root_level words → (node_at words path at).position.level ≡ at
-  pub eight : length path ≡ 8
+pub record IsOwner (f : Layout) (o : Fields) : Type 0 where
+  pub lawful : Lawful f o.frames o.levels o.words (whole_view f o ∷ [])
+  pub span : HasWholeSpan f o.first o.count
+  pub first_is : first_or None (chain_of o.words o.head o.held) ≡ o.head
+  pub held_is : length (chain_of o.words o.head o.held) ≡ o.held
+  pub low : o.level ≤ root_level o.words + 1
+  pub levels_are : (at : ℕ) → o.level ≤ at → at ≤ root_level o.words → (node_at o.words o.path at).position.level ≡ at
+  pub eight : length o.path ≡ 8
+
+-- nothing is set aside
+abbrev pub none_aside : Aside
+none_aside = record { blocks = []; positions = [] }
 
 -- a view of a new space: it is at rest, has no blocks and no tables, and the frames from 1 on are in its purse
 pub record IsOpened (f : Layout) (n l hold : ℕ) (v : View) : Type 0 where

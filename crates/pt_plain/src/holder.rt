@@ -10,15 +10,13 @@ use pt_num::Span;
 use pt_view::{Holder, Seen, Won};
 
 impl<F: Format> Holder<F> for Plain<F> {
-    ghost use Rattle.std.specs.Prelude.{[]};
-
     type Space = ();
 
     ghost space = { λ p. tt };
 
     ghost view = { λ p. p.view };
 
-    ghost aside = { λ p. record { blocks = []; positions = [] } };
+    ghost aside = { λ p. p.aside };
 
     ghost tells = { ⊥ };
 

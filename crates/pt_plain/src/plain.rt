@@ -4,8 +4,8 @@ ghost use Rattle.std.specs.Prelude.{◌≡◌, ℕ, ◌+◌, ◌^◌, ◌<◌, �
 ghost use Rattle.pt_model.specs.Words.{frame_limit, tag};
 ghost use Rattle.pt_rule.specs.Lawful.{Lawful};
 ghost use Rattle.pt_rule.specs.Tags.{first_or};
-ghost use Rattle.pt_rule.specs.Opening.{counting};
-ghost use Rattle.pt_plain.specs.Owner.{Owned, IsOpened, Rests};
+ghost use Rattle.pt_rule.specs.Opening.{IsNew, counting};
+ghost use Rattle.pt_plain.specs.Owner.{IsOpened, Rests, none_aside};
 ghost use Rattle.pt_plain.specs.Chains.{IsChain, IsKept};
 
 use crate::words::{held_word, placed_word, set_tag, word_count};
@@ -14,7 +14,8 @@ use pt_num::Memory;
 use std::alloc::Global;
 use std::marker::{Model, PhantomData};
 
-/// The words of one owner, who holds the whole space. Contracts see the words and the one view of them.
+/// The words of one owner, who holds the whole space. Contracts see the words, the view of its span, and what it has
+/// set aside outside.
 #[derive(Drop)]
 pub struct Plain<F: Format> {
     pub(crate) words: Vec<u64>,
@@ -32,13 +33,36 @@ pub struct Plain<F: Format> {
 }
 
 impl<F: Format> Model for Plain<F> {
-    ghost use Rattle.pt_plain.specs.Owner.{Owned, owner_view, IsOwner};
+    ghost use Rattle.pt_model.specs.Layout.{input_pages};
+    ghost use Rattle.pt_plain.specs.Owner.{Owned, owned, IsOwner};
 
     ghost Value = { Owned };
 
-    ghost view = { λ p. record { words = p.words.items; view = owner_view F.layout p.frames p.levels p.words.items p.head p.held p.path p.level p.prepared } };
+    ghost view = { λ p. owned F.layout (record {
+      words = p.words.items;
+      frames = p.frames;
+      levels = p.levels;
+      first = 0;
+      count = input_pages F.layout;
+      head = p.head;
+      held = p.held;
+      path = p.path;
+      level = p.level;
+      prepared = p.prepared;
+    }) };
 
-    ghost invariant = { λ p. IsOwner F.layout p.frames p.levels p.words.items p.head p.held p.path p.level p.prepared };
+    ghost invariant = { λ p. IsOwner F.layout (record {
+      words = p.words.items;
+      frames = p.frames;
+      levels = p.levels;
+      first = 0;
+      count = input_pages F.layout;
+      head = p.head;
+      held = p.held;
+      path = p.path;
+      level = p.level;
+      prepared = p.prepared;
+    }) };
 }
 
 /// Chains the frames from 1 to `hold`: the tag of each names the next one, and the last one's names none.
@@ -72,7 +96,9 @@ impl<F: Format> Plain<F> {
         requires hold { hold < frames }
         requires low { F.layout.start ≤ levels }
         requires high { levels ≤ F.layout.levels }
-        ensures { IfOk result (λ p. IsOpened F.layout frames levels hold p.view) }
+        ensures words { IfOk result (λ p. IsNew F.layout frames levels hold p.words) }
+        ensures opened { IfOk result (λ p. IsOpened F.layout frames levels hold p.view) }
+        ensures aside { IfOk result (λ p. p.aside ≡ none_aside) }
     {
         let mut words = Vec::new(alloc);
         words.resize(word_count::<F>(frames), 0)?;

@@ -3,7 +3,7 @@ use Rattle.std.proofs.Common.{[], ◌∙◌}
 use Rattle.atomic_table.proofs.Lists.{set_else}
 use Rattle.pt_rule.specs.Cuts.{joined}
 use Rattle.pt_rule.specs.Kinds.{retrace}
-use Rattle.pt_rule.specs.Laws.{BooksAreLawful, FrontsKeep, JoinsKeep, NewIsLawful, SplitsKeep, StepsKeep, ViewsForget, ViewsHold, WholeIsAlone, WholeIsCounted}
+use Rattle.pt_rule.specs.Laws.{BooksAreLawful, FrontsKeep, JoinsKeep, NewIsLawful, SplitsKeep, StepsKeep, ViewsNote, ViewsHold, WholeIsAlone, WholeIsCounted}
 use Rattle.pt_rule.specs.Meets.{GrowMeets, StepsMeet, UnlinkMeets}
 use Rattle.pt_rule.specs.Union.{WalkIsUnion}
 use Rattle.pt_rule.specs.WholeView.{WholeIsRead}
@@ -11,7 +11,7 @@ use Rattle.pt_rule.proofs.AloneKept as whole
 use Rattle.pt_rule.proofs.CallsMeet as calls
 use Rattle.pt_rule.proofs.CountKept as frames
 use Rattle.pt_rule.proofs.CutPaths as fronts
-use Rattle.pt_rule.proofs.Forgotten as forgotten
+use Rattle.pt_rule.proofs.MayNote as noted
 use Rattle.pt_rule.proofs.Holding as holding
 use Rattle.pt_rule.proofs.JoinKept as parts
 use Rattle.pt_rule.proofs.Kept as steps
@@ -39,8 +39,8 @@ unlink_meets = calls.unlink_meets
 pub grow_meets : GrowMeets
 grow_meets = calls.grow_meets
 
-pub views_forget : ViewsForget
-views_forget = forgotten.views_forget
+pub views_note : ViewsNote
+views_note = noted.views_note
 
 pub views_hold : ViewsHold
 views_hold f good n l words views id v r at live = holding.holds_of f good n l words views r id v at live

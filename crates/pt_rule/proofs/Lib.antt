@@ -44,7 +44,7 @@ pub mod TakenAway
 pub mod SharedState
 pub mod OpeningKept
 pub mod CutPaths
-pub mod Forgotten
+pub mod MayNote
 pub mod Holding
 pub mod Regroup
 pub mod CutLists

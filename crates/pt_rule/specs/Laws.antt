@@ -1,11 +1,12 @@
 -- What is proved of the rule.
-use Rattle.std.specs.Prelude.{◌≡◌, ℕ, ◌+◌, ◌<◌, ◌≤◌, List, [], ◌∷◌, ◌++◌, slice_set}
+use Rattle.std.specs.Prelude.{◌≡◌, ◌≢◌, ◌⊎◌, ℕ, ◌+◌, ◌<◌, ◌≤◌, IsTrue, List, [], ◌∷◌, ◌++◌, slice_set}
 use mathlib.Core.Option.{some}
 use lib.ListN.{get_elem?}
 use Rattle.pt_model.specs.declared.block.Block.{Block}
 use Rattle.pt_model.specs.Layout.{Layout, input_pages}
 use Rattle.pt_model.specs.Book.{IsLawful}
-use Rattle.pt_model.specs.Words.{frame_limit}
+use Rattle.pt_model.specs.Tables.{end_of_table, is_spine}
+use Rattle.pt_model.specs.Words.{frame_limit, tag}
 use Rattle.pt_format.specs.Laws.{IsLayout, WordsDiffer}
 use Rattle.pt_format.specs.Manual.{StepsAgree}
 use Rattle.pt_view.specs.declared.view.View.{View}
@@ -14,7 +15,8 @@ use Rattle.pt_model.specs.declared.position.Position.{Position}
 use Rattle.pt_model.specs.Sets.{IsAmong}
 use Rattle.pt_view.specs.Lists.{IsIn}
 use Rattle.pt_view.specs.Views.{IsAtRest, SameBook, SamePurse, SameRange, book_of, linked_of, spent}
-use Rattle.pt_view.specs.Calls.{held_count, HasEveryFrame}
+use Rattle.pt_view.specs.Calls.{held_count, meets_span, HasEveryFrame}
+use Rattle.pt_rule.specs.Linked.{is_in_tree}
 use Rattle.pt_rule.specs.Lawful.{Lawful}
 use Rattle.pt_rule.specs.Kinds.{Kind, Keeps, KeepsCut, retrace}
 use Rattle.pt_rule.specs.Opening.{opening_view, IsNew}
@@ -35,23 +37,24 @@ StepsKeep = (f : Layout) → IsLayout f → WordsDiffer f → StepsAgree f → (
 abbrev pub FrontsKeep : Type 0
 FrontsKeep = (f : Layout) (n l : ℕ) (k : Kind) → Keeps f n l k → KeepsCut f n l k
 
--- a view that forgets: it leaves the last tables of its path, and of the frames that it found busy and the positions that
--- it found linked it knows these or fewer; what it tells of its histories may be anything
-pub record Forgets (v w : View) : Type 0 where
+-- what a view may note: w is v but for the last tables of its path, which it leaves, the frames that it says to have found
+-- busy and the positions that it says to have found linked, all of which are, and its histories, which may be any
+pub record MayNote (f : Layout) (n l : ℕ) (words : List ℕ) (views : List View) (v w : View) : Type 0 where
   pub range : SameRange v w
   pub book : SameBook v w
   pub purse : SamePurse v w
   pub prepared : w.prepared ≡ v.prepared
   pub rest : List Node
   pub path : v.path ≡ w.path ++ rest
-  pub busy : (frame : ℕ) → IsIn w.busy frame → IsIn v.busy frame
-  pub known : (p : Position) → IsAmong w.known p → IsAmong v.known p
+  pub busy : w.count ≡ input_pages f → (frame : ℕ) → frame < n → IsIn w.busy frame → tag words frame ≢ 0
+  pub known : (p : Position) → IsAmong w.known p →
+      IsTrue (is_in_tree l words views p) × (IsTrue (is_spine w.levels p) ⊎ IsTrue (meets_span w p.base (end_of_table f p)))
 
--- the rule holds too with what is left of a view that forgets
-abbrev pub ViewsForget : Type 0
-ViewsForget =
+-- the rule holds too with what a view may note
+abbrev pub ViewsNote : Type 0
+ViewsNote =
     (f : Layout) (n l : ℕ) (words : List ℕ) (views : List View) (id : ℕ) (v w : View) → Lawful f n l words views → get_elem? views id ≡ some v →
-    0 < v.count → Forgets v w → Lawful f n l words (slice_set views id w)
+    0 < v.count → MayNote f n l words views v w → Lawful f n l words (slice_set views id w)
 
 -- a view whose span is the whole space is the only live one, and the rule holds with it alone
 abbrev pub WholeIsAlone : Type 0

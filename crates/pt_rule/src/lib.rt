@@ -8,7 +8,7 @@
 //! manual's walk of the words is the union of what the views map.
 #![tactic(auto)]
 
-ghost use Rattle.pt_rule.specs.Laws.{NewIsLawful, StepsKeep, FrontsKeep, ViewsForget, SplitsKeep, JoinsKeep, ViewsHold, WholeIsAlone, WholeIsCounted, BooksAreLawful};
+ghost use Rattle.pt_rule.specs.Laws.{NewIsLawful, StepsKeep, FrontsKeep, ViewsNote, SplitsKeep, JoinsKeep, ViewsHold, WholeIsAlone, WholeIsCounted, BooksAreLawful};
 ghost use Rattle.pt_rule.specs.WholeView.{WholeIsRead};
 ghost use Rattle.pt_rule.specs.Union.{WalkIsUnion};
 ghost use Rattle.pt_rule.specs.Meets.{StepsMeet, UnlinkMeets, GrowMeets};
@@ -40,10 +40,10 @@ pub fn fronts_keep()
     ensures { FrontsKeep }
 {}
 
-/// A view may forget what it has met: the last tables of its path, frames that it found busy, positions that it found
-/// linked, and its histories.
-pub fn views_forget()
-    ensures { ViewsForget }
+/// A view may leave the last tables of its path, and what it says to have met may be anything that is true: frames that
+/// aren't free, and positions that are linked. Its histories may be any.
+pub fn views_note()
+    ensures { ViewsNote }
 {}
 
 /// A view that is cut in two at a page, where no block lies across it, keeps the rule as two views.
