@@ -1,9 +1,8 @@
 -- What a step says of a view holds of one that agrees with it, over a holder of the whole space that tells no histories.
-use Rattle.std.proofs.Common.{◌≡◌, ℕ, Bool, ◌∙◌, ap, sym, List, ◌∷◌, true, false, [], ◌++◌}
+use Rattle.std.proofs.Common.{ℕ, Bool, ◌∙◌, ap, sym, List, ◌∷◌, true, false}
 use Rattle.std.specs.Prelude.{◌↔◌}
 use Rattle.pt_model.specs.declared.position.Position.{Position}
 use Rattle.pt_model.specs.Layout.{Layout}
-use Rattle.pt_model.specs.Sets.{AddsPositions, SamePositions}
 use Rattle.pt_view.specs.declared.view.View.{View}
 use Rattle.pt_view.specs.declared.holder.Seen.{Seen}
 use Rattle.pt_view.specs.declared.holder.Seen.TheVariants.{Empty, Leaf, Entered}

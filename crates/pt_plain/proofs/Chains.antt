@@ -5,7 +5,7 @@ use Rattle.std.proofs.lemmas.Bool.{eqb-true, eq-eqb, ne_eqb, cases_Bool, cases_e
 use Rattle.pt_model.specs.Words.{tag}
 use Rattle.pt_view.specs.Lists.{IsIn}
 use Rattle.pt_rule.specs.Tags.{Chained, first_or, held_word}
-use Rattle.pt_rule.proofs.TotalsKept.{in_cases, in_here, in_more}
+use Rattle.pt_view.proofs.Members.{in_cases, in_here, in_more}
 use Rattle.pt_plain.specs.Owner.{busy_in, chain_of, next_named}
 
 -- a held frame's tag names the next one

@@ -1,6 +1,6 @@
 -- The calls on an entry of the path's last table: enter, install and write.
-use Rattle.std.proofs.Common.{◌≡◌, ◌≢◌, ◌⊎◌, inl, inr, ℕ, Bool, true, false, ◌+◌, ◌-◌, ◌%◌, ◌<◌, ◌≤◌, List, [], ◌∷◌, ◌++◌, refl, ap, sym, ◌∙◌, subst, arith, eq-eqb, ⊎_elim}
-use Rattle.std.specs.Prelude.{Option, None, Some, ◌==◌, slice_index, slice_set, if◌then◌else◌}
+use Rattle.std.proofs.Common.{◌≡◌, ◌≢◌, ◌⊎◌, inl, inr, ℕ, Bool, ◌-◌, ◌%◌, ◌<◌, List, [], ◌∷◌, ◌++◌, refl, ap, sym, ◌∙◌, subst, arith, eq-eqb, ⊎_elim}
+use Rattle.std.specs.Prelude.{None, Some, ◌==◌, slice_index, slice_set, if◌then◌else◌}
 use Rattle.std.proofs.lemmas.Bool.{ne_eqb}
 use Rattle.pt_model.specs.declared.position.Position.{Position}
 use Rattle.pt_model.specs.declared.block.Prot.{Prot}
@@ -19,15 +19,15 @@ use Rattle.pt_view.specs.declared.holder.Seen.TheVariants.{Empty, Leaf, Entered}
 use Rattle.pt_view.specs.declared.holder.Won.{Won}
 use Rattle.pt_view.specs.declared.holder.Won.TheVariants.{Yes, Met}
 use Rattle.pt_view.specs.Pieces.{word_of}
-use Rattle.pt_view.specs.Calls.{InstallFinds, IsEntryAt, IsInstalled, IsWritten, Looked, MayInstall, MayPut, MayWrite, MeetsEntry, Went, lowest, with_table, zero, leaf, table}
+use Rattle.pt_view.specs.Calls.{InstallFinds, IsInstalled, IsWritten, Looked, MayInstall, MayPut, MayWrite, MeetsEntry, Went, lowest, zero, leaf, table}
 use Rattle.pt_rule.specs.Kinds.{IsLowestIn, WriteTells, after, frame_of, install, level_at, look, pointer_to, put, write}
 use Rattle.pt_rule.specs.Meets.{Always, Enters as EntersBy, Installs, IsWhole}
 use Rattle.pt_rule.proofs.TablesAdded.{with_cases}
-use Rattle.pt_plain.specs.Owner.{Fields, IsOwner, node_at, prepared_at, span_view, whole_view}
+use Rattle.pt_plain.specs.Owner.{Fields, IsOwner, prepared_at, span_view, whole_view}
 use Rattle.pt_plain.proofs.Carried.{installed_on, went_on, written_on}
 use Rattle.pt_plain.proofs.Laws.{Laws}
-use Rattle.pt_plain.proofs.Matches.{Matches, path_deeper, path_kept, prepared_kept, prepared_none, purse_kept}
-use Rattle.pt_plain.proofs.Owners.{Does, does, frame_within, given, level_below, level_is, low_here, lowest_in, matches, position_is, shown, span_whole, whole}
+use Rattle.pt_plain.proofs.Matches.{path_deeper, path_kept, prepared_kept, prepared_none, purse_kept}
+use Rattle.pt_plain.proofs.Owners.{Does, frame_within, given, level_below, level_is, low_here, lowest_in, matches, shown, span_whole, whole}
 use Rattle.pt_plain.proofs.Steps.{loaded, noted_after, read_back, says, stored, told}
 
 -- What the calls do: the path goes into a child, which is linked at the entry or was, or a word is written there.

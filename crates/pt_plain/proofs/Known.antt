@@ -1,5 +1,5 @@
 -- The positions that an owner knows: its tables, and the spine up to its top.
-use Rattle.std.proofs.Common.{◌≡◌, ◌⊎◌, inl, inr, true, ℕ, ◌+◌, ◌-◌, ◌<◌, ◌≤◌, List, sym, subst, arith, ⊎_elim}
+use Rattle.std.proofs.Common.{◌≡◌, ◌⊎◌, inl, inr, ℕ, ◌+◌, ◌-◌, ◌≤◌, List, sym, subst, arith, ⊎_elim}
 use Rattle.std.specs.Prelude.{IsTrue, map}
 use Rattle.pt_model.specs.declared.position.Position.{Position}
 use Rattle.pt_model.specs.Sets.{IsAmong}

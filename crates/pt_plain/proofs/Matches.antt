@@ -1,5 +1,5 @@
 -- When the fields of an owner are those of a view: by its purse, its path and its prepared frame.
-use Rattle.std.proofs.Common.{◌≡◌, ℕ, ◌+◌, ◌-◌, ◌<◌, ◌≤◌, List, [], ◌∷◌, ◌++◌, length, refl, ap, sym, ◌∙◌, subst, arith, length-append, length-set}
+use Rattle.std.proofs.Common.{◌≡◌, ℕ, ◌+◌, ◌-◌, ◌<◌, ◌≤◌, List, [], ◌∷◌, ◌++◌, length, ap, sym, ◌∙◌, subst, arith, length-append, length-set}
 use Rattle.std.specs.Prelude.{Option, None, Some, slice_set}
 use Rattle.pt_model.specs.Words.{root_level}
 use Rattle.pt_view.specs.declared.view.View.{View}

@@ -1,6 +1,6 @@
 -- The view that an owner's words and fields say, and its entries.
-use Rattle.std.proofs.Common.{◌≡◌, ◌≢◌, ℕ, ◌⊎◌, inl, inr, Bool, true, false, suc, ◌+◌, ◌-◌, ◌<◌, ◌≤◌, List, [], ◌∷◌, refl, ap, sym, ◌∙◌, subst, arith}
-use Rattle.std.specs.Prelude.{Option, None, Some, IsTrue, filter, map, not, ◌==◌, ◌&&◌, nat_lt, slice_index, if◌then◌else◌}
+use Rattle.std.proofs.Common.{◌≡◌, ℕ, inl, inr, Bool, true, false, suc, ◌+◌, ◌-◌, ◌<◌, ◌≤◌, List, [], ◌∷◌, refl, ap, sym, ◌∙◌, subst, arith}
+use Rattle.std.specs.Prelude.{Option, None, Some, filter, map, not, ◌==◌, ◌&&◌, slice_index, if◌then◌else◌}
 use Rattle.std.specs.List.{AllByRecursion}
 use Rattle.std.proofs.lemmas.Bool.{or_left, or_right}
 use Rattle.std.proofs.Math.Bool.{and-false}
@@ -11,24 +11,20 @@ use Rattle.pt_model.specs.declared.position.Position.{Position}
 use Rattle.pt_model.specs.Book.{lies_in}
 use Rattle.pt_model.specs.Layout.{Layout, input_pages}
 use Rattle.pt_model.specs.Sets.{IsAmong}
-use Rattle.pt_model.specs.Tables.{end_of_table, is_spine}
-use Rattle.pt_model.specs.Words.{root_level, tag}
-use Rattle.pt_model.proofs.Positions.{among_all, filter_members}
-use Rattle.pt_format.specs.Laws.{IsLayout}
+use Rattle.pt_model.specs.Tables.{is_spine}
+use Rattle.pt_model.specs.Words.{root_level}
+use Rattle.pt_model.proofs.Positions.{filter_members}
 use Rattle.pt_view.specs.declared.view.View.{View}
 use Rattle.pt_view.specs.declared.view.Node.{Node}
 use Rattle.pt_view.specs.declared.view.Piece.{Piece}
-use Rattle.pt_view.specs.Lists.{IsIn}
-use Rattle.pt_view.specs.Views.{Aside}
 use Rattle.pt_view.specs.Calls.{IsEntryAt, lowest}
 use Rattle.pt_rule.specs.Cuts.{is_near, table_in}
-use Rattle.pt_rule.specs.Linked.{IsLinkedAt}
 use Rattle.pt_rule.specs.Lawful.{HasBook, IsOnPath, IsOwnPiece, IsOwnTable, Lawful}
 use Rattle.pt_rule.specs.Kinds.{IsLowestIn}
 use Rattle.pt_rule.specs.WholeView.{prepared_frame}
-use Rattle.pt_rule.proofs.LookKept.{lowest_has}
-use Rattle.pt_rule.proofs.TotalsKept.{all_map}
-use Rattle.pt_plain.specs.Owner.{Fields, HasWholeSpan, IsOwner, Owned, aside_of, busy_in, chain_of, known_in, node_at, nodes_down, none_aside, outside, owned, part_in, prepared_at, span_view, whole_view}
+use Rattle.pt_view.proofs.Members.{all_map}
+use Rattle.pt_view.proofs.Paths.{lowest_has}
+use Rattle.pt_plain.specs.Owner.{Fields, IsOwner, Owned, aside_of, busy_in, chain_of, known_in, node_at, nodes_down, none_aside, outside, owned, part_in, prepared_at, span_view, whole_view}
 use Rattle.pt_plain.proofs.Matches.{IsPlain, Matches}
 use Rattle.pt_plain.proofs.Paths.{follows_down, nodes_length, nodes_lowest}
 

@@ -1,12 +1,12 @@
 -- The calls that change the path alone: leave and root.
-use Rattle.std.proofs.Common.{◌≡◌, ℕ, suc, ◌+◌, ◌-◌, ◌<◌, ◌≤◌, List, [], ◌∷◌, ◌++◌, ◌/◌, ◌%◌, inl, inr, length, refl, ap, sym, ◌∙◌, subst, arith, add-one, length-set, get_or-set_same}
+use Rattle.std.proofs.Common.{◌≡◌, ℕ, suc, ◌+◌, ◌-◌, ◌<◌, List, [], ◌∷◌, ◌++◌, ◌/◌, ◌%◌, inl, inr, length, refl, ap, sym, ◌∙◌, subst, arith, add-one, length-set, get_or-set_same}
 use Rattle.std.specs.Prelude.{slice_index, slice_set, false}
 use Rattle.pt_model.specs.Layout.{Layout}
 use Rattle.pt_format.specs.Laws.{IsLayout}
 use Rattle.pt_model.specs.Words.{root_frame, root_level}
 use Rattle.pt_view.specs.declared.view.View.{View}
 use Rattle.pt_view.specs.declared.view.Node.{Node}
-use Rattle.pt_view.specs.Calls.{Rooted, above, left}
+use Rattle.pt_view.specs.Calls.{Rooted, left, all_but_last}
 use Rattle.pt_rule.specs.Lawful.{Lawful}
 use Rattle.pt_rule.specs.Kinds.{after, load_root}
 use Rattle.pt_rule.proofs.Laws.{views_note}
@@ -39,19 +39,19 @@ module _ {f : Layout} {o : Fields} (own : IsOwner f o) (some : 0 < length (whole
       let e : length v.path ≡ root_level o.words + 1 - o.level = ap length (shown f o).path_is ∙ nodes_length o.words o.path o.level (root_level o.words + 1 - o.level) in
       omega arith
 
-  path_now : nodes_down o.words o.path (o.level + 1) (root_level o.words + 1 - (o.level + 1)) ≡ above v.path
+  path_now : nodes_down o.words o.path (o.level + 1) (root_level o.words + 1 - (o.level + 1)) ≡ all_but_last v.path
   path_now =
       let e = count_is in
       let less : root_level o.words + 1 - (o.level + 1) ≡ rest = omega arith in
       ap (nodes_down o.words o.path (o.level + 1)) less ∙ sym (nodes_above o.words o.path o.level rest)
-      ∙ ap (λ (k : ℕ). above (nodes_down o.words o.path o.level k)) (sym e) ∙ ap above (sym (shown f o).path_is)
+      ∙ ap (λ (k : ℕ). all_but_last (nodes_down o.words o.path o.level k)) (sym e) ∙ ap all_but_last (sym (shown f o).path_is)
 
   -- the path loses its last table
   leaves : whole_view f (record o { level = o.level + 1 }) ≡ left v
   unfolding whole_view
   leaves = ap (λ (xs : List Node). record v { path = xs }) path_now
 
-  whole_path : v.path ≡ above v.path ++ node_at o.words o.path o.level ∷ []
+  whole_path : v.path ≡ all_but_last v.path ++ node_at o.words o.path o.level ∷ []
   whole_path =
       (shown f o).path_is ∙ ap (nodes_down o.words o.path o.level) count_is ∙ nodes_down_more o.words o.path o.level rest
       ∙ ap (λ (xs : List Node). xs ++ node_at o.words o.path o.level ∷ [])

@@ -7,7 +7,7 @@ use native.Mathlib.Decide.{ℕ_discrete}
 use Rattle.pt_model.specs.declared.position.Position.{Position}
 use Rattle.pt_model.specs.Words.{tag, placed_at}
 use Rattle.pt_view.specs.declared.view.Node.{Node}
-use Rattle.pt_view.specs.Calls.{above, lowest}
+use Rattle.pt_view.specs.Calls.{lowest, all_but_last}
 use Rattle.pt_plain.specs.Owner.{node_at, nodes_down}
 
 -- the nodes are in the path's frames, from the level under k on down
@@ -63,11 +63,11 @@ module _ (words path : List ℕ) where
   nodes_lowest level zero = let e : level + 0 ≡ level = omega arith in ap (λ (j : ℕ). Some (node_at words path j)) e
   nodes_lowest level (suc count) = nodes_lowest level count
 
-  pub nodes_above : (level count : ℕ) → above (nodes_down words path level (suc count)) ≡ nodes_down words path (level + 1) count
+  pub nodes_above : (level count : ℕ) → all_but_last (nodes_down words path level (suc count)) ≡ nodes_down words path (level + 1) count
   nodes_above level zero = refl
   nodes_above level (suc count) =
       let e : level + suc count ≡ level + 1 + count = omega arith in
-      ap (λ (j : ℕ). node_at words path j ∷ above (nodes_down words path level (suc count))) e
+      ap (λ (j : ℕ). node_at words path j ∷ all_but_last (nodes_down words path level (suc count))) e
       ∙ ap (λ (xs : List Node). node_at words path (level + 1 + count) ∷ xs) (nodes_above level count)
 
 -- one more node, below the others

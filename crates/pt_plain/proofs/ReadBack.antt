@@ -1,6 +1,6 @@
 -- Where the rule holds of words and a view of the whole space, the fields are those of that view, and it has noted all
 -- that the words say, then the view that the words and fields say agrees with it, and the rule holds with it too.
-use Rattle.std.proofs.Common.{◌≡◌, ◌≢◌, ◌⊎◌, inl, inr, true, ℕ, ◌+◌, ◌-◌, ◌<◌, ◌≤◌, List, [], ◌∷◌, ◌++◌, length, refl, ap, sym, ◌∙◌, subst, arith, ⊎_elim}
+use Rattle.std.proofs.Common.{◌≡◌, ◌≢◌, ◌⊎◌, inl, inr, true, ℕ, ◌+◌, ◌-◌, ◌<◌, ◌≤◌, List, [], ◌∷◌, length, refl, ap, sym, ◌∙◌, subst, arith, ⊎_elim}
 use Rattle.std.specs.Prelude.{IsTrue, map, Option, None, Some, nat_le, nat_lt, ◌&&◌}
 use Rattle.std.proofs.lemmas.Bool.{and_from, and_parts, le-leb, leb-true, lt-ltb, ltb-true, or_cases, or_left, or_right}
 use Rattle.std.proofs.lemmas.List.{append-nil}
@@ -23,13 +23,13 @@ use Rattle.pt_rule.specs.Linked.{is_in_tree}
 use Rattle.pt_rule.specs.Lawful.{IsOnPath, IsOwnTable, IsPreparedAt, Lawful}
 use Rattle.pt_rule.specs.WholeView.{pieces_in, prepared_frame, tables_in}
 use Rattle.pt_rule.proofs.Laws.{views_note, whole_is_read}
-use Rattle.pt_rule.proofs.TotalsKept.{all_map}
-use Rattle.pt_plain.specs.Owner.{Fields, HasWholeSpan, IsOwner, busy_in, chain_of, known_in, nodes_down, prepared_at, whole_view}
+use Rattle.pt_view.proofs.Members.{all_map}
+use Rattle.pt_plain.specs.Owner.{Fields, HasWholeSpan, IsOwner, chain_of, known_in, nodes_down, prepared_at, whole_view}
 use Rattle.pt_plain.proofs.Chains.{busy_tag, chain_back, tag_busy}
 use Rattle.pt_plain.proofs.Laws.{Laws}
 use Rattle.pt_plain.proofs.Matches.{IsPlain, Matches}
-use Rattle.pt_plain.proofs.Owners.{Shown, shown}
-use Rattle.pt_plain.proofs.Paths.{AreTagged, Follows, levels_back, nodes_back}
+use Rattle.pt_plain.proofs.Owners.{shown}
+use Rattle.pt_plain.proofs.Paths.{AreTagged, levels_back, nodes_back}
 use Rattle.pt_plain.proofs.Known.{known_spine, known_table}
 
 -- a view that has found busy what isn't free, and found linked what is in its tree

@@ -1,6 +1,6 @@
 -- The call that stores a run of entries: it is so many writes.
 use Rattle.std.proofs.Common.{◌≡◌, ◌≢◌, ℕ, zero, suc, false, ◌+◌, ◌-◌, ◌*◌, ◌^◌, ◌<◌, ◌≤◌, List, [], ◌∷◌, ◌++◌, length, refl, ap, sym, ◌∙◌, subst, arith, length-set, max}
-use Rattle.std.specs.Prelude.{Option, ◌==◌, slice_index, slice_set}
+use Rattle.std.specs.Prelude.{◌==◌, slice_index, slice_set}
 use Rattle.std.proofs.lemmas.List.FromFn.{map-range_with_len_more}
 use Rattle.std.proofs.lemmas.List.Sums.{fold-append}
 use Rattle.std.proofs.lemmas.Bool.{ne_eqb}
@@ -16,7 +16,7 @@ use Rattle.pt_view.specs.Lists.{SameFrames}
 use Rattle.pt_view.specs.Pieces.{add_piece, add_pieces, pieces_by, number_of, word_of}
 use Rattle.pt_view.specs.Views.{SamePurse, SameRange}
 use Rattle.pt_view.specs.Calls.{ArePieces, IsWritten, IsWrittenRun, MayPut, MayWriteRun, lowest, off_spine, pieces_at, top_over}
-use Rattle.pt_rule.proofs.PieceFacts.{one_here}
+use Rattle.pt_view.proofs.Pieces.{one_here}
 use Rattle.pt_rule.proofs.WriteKept.{pieces_with}
 use Rattle.pt_plain.specs.Owner.{Fields, IsOwner, set_run, span_view, whole_view}
 use Rattle.pt_plain.proofs.EntryCalls as entry

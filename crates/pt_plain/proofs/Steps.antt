@@ -1,11 +1,11 @@
 -- One step of one owner: the rule holds after it, what the number found tells is told, and the call is met.
-use Rattle.std.proofs.Common.{◌≡◌, ◌≢◌, ◌⊎◌, inl, inr, ℕ, ◌+◌, ◌<◌, List, [], ◌∷◌, refl, ap, sym, ◌∙◌, subst, ⊎_elim}
+use Rattle.std.proofs.Common.{◌≡◌, ◌≢◌, ◌⊎◌, ℕ, ◌<◌, List, [], ◌∷◌, refl, ap, sym, ◌∙◌, subst, ⊎_elim}
 use Rattle.std.specs.Prelude.{Option, slice_index, slice_set}
 use Rattle.std.proofs.lemmas.List.{set-get_or}
 use Rattle.pt_model.specs.declared.position.Position.{Position}
 use Rattle.pt_model.specs.Layout.{Layout}
 use Rattle.pt_model.specs.Sets.{IsAmong}
-use Rattle.pt_model.specs.Words.{root_level, tag}
+use Rattle.pt_model.specs.Words.{tag}
 use Rattle.pt_view.specs.declared.view.View.{View}
 use Rattle.pt_view.specs.Lists.{IsIn, SameFrames}
 use Rattle.pt_view.specs.Views.{SameRange}

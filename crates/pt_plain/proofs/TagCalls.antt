@@ -1,18 +1,18 @@
 -- The calls on tags: take, place and unplace.
-use Rattle.std.proofs.Common.{◌≡◌, ◌≢◌, ◌⊎◌, inl, inr, ℕ, suc, Bool, true, false, ◌+◌, ◌-◌, ◌%◌, ◌^◌, ◌<◌, ◌≤◌, List, [], ◌∷◌, length, refl, ap, sym, ◌∙◌, subst, arith, eq-eqb, ⊎_elim, ◌++◌}
+use Rattle.std.proofs.Common.{◌≡◌, ◌≢◌, inl, inr, ℕ, suc, Bool, true, false, ◌+◌, ◌-◌, ◌%◌, ◌^◌, ◌<◌, ◌≤◌, List, [], ◌∷◌, length, refl, ap, sym, ◌∙◌, subst, arith, eq-eqb, ⊎_elim, ◌++◌}
 use Rattle.std.specs.Prelude.{Option, None, Some, ◌==◌, slice_index, slice_set, if◌then◌else◌}
 use Rattle.std.proofs.Math.Pow.{pow_mono}
 use mathlib.Core.Logic.{dite}
 use native.Mathlib.Decide.{ℕ_discrete}
 use Rattle.pt_model.specs.declared.position.Position.{Position}
-use Rattle.pt_model.specs.Layout.{Layout, input_pages}
+use Rattle.pt_model.specs.Layout.{Layout}
 use Rattle.pt_model.specs.Tables.{IsPosition}
 use Rattle.pt_model.specs.Words.{frame_limit, placed_at, placed_word, tag}
 use Rattle.pt_model.proofs.Places.{root_after_tag, tag_else}
 use Rattle.pt_format.specs.Laws.{IsLayout}
 use Rattle.pt_view.specs.declared.view.View.{View}
 use Rattle.pt_view.specs.declared.view.Prepared.{Prepared}
-use Rattle.pt_view.specs.Lists.{AddsFrame, IsIn}
+use Rattle.pt_view.specs.Lists.{IsIn}
 use Rattle.pt_view.specs.Views.{Aside}
 use Rattle.pt_view.specs.Calls.{FillsSpace, FitsSpace, HasEveryFrame, IsPlaced, IsTaken, IsUnplaced, prepared_count}
 use Rattle.pt_rule.specs.Tags.{Chained, IsEnd, first_or, held_word}
@@ -22,7 +22,7 @@ use Rattle.pt_rule.specs.Kinds.{after, place, rest_of, take, unplace}
 use Rattle.pt_rule.specs.Meets.{Always}
 use Rattle.pt_rule.proofs.Laws.{views_hold}
 use Rattle.pt_rule.proofs.TagFacts.{held_nonzero, placed_some, prepared_by}
-use Rattle.pt_rule.proofs.TotalsKept.{in_here, in_more}
+use Rattle.pt_view.proofs.Members.{in_here, in_more}
 use Rattle.pt_plain.specs.Owner.{Fields, IsOwner, aside_of, prepared_at, span_view, whole_view}
 use Rattle.pt_plain.proofs.Carried.{placed_on, taken_on, unplaced_on}
 use Rattle.pt_plain.proofs.Laws.{Laws}

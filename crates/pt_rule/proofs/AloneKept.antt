@@ -21,7 +21,8 @@ use Rattle.pt_rule.specs.Totals.{total, Each, covers, holds, prepares, has_table
 use Rattle.pt_rule.specs.Tags.{IsEnd, Chained, is_placed}
 use Rattle.pt_rule.specs.Linked.{is_in_tree}
 use Rattle.pt_rule.specs.Lawful.{Lawful, HasBook, HasPath, IsPreparedAt, IsBridged}
-use Rattle.pt_rule.proofs.TotalsKept.{total_only, all_map}
+use Rattle.pt_rule.proofs.TotalsKept.{total_only}
+use Rattle.pt_view.proofs.Members.{all_map}
 use Rattle.pt_rule.proofs.PartsKept.{SameLinks, links_same, SameTree, tree_same, bridged_to, positions_same, parents_same, path_same}
 use Rattle.pt_rule.proofs.SpansFacts.{covers_none, whole_only}
 use Rattle.pt_rule.proofs.NotesKept.{same_range}

@@ -24,7 +24,7 @@ use Rattle.pt_model.proofs.Places.{entry_else, entry_same, length_kept, root_aft
 use Rattle.pt_rule.proofs.TotalsKept.{at_inside, each_set, total_only, total_same}
 use Rattle.pt_rule.proofs.PartsKept.{SameLinks, SameTree, book_same, books_set, bridge_to, bridged_to, busy_set, entries_same, known_set, links_same, parents_same, path_same, paths_set, positions_same, prepared_moved, prepared_within, purses_same, root_same, sizes_same, spans_set, tree_same}
 use Rattle.pt_rule.proofs.TagFacts.{IsPreparedBy, prepared_by, prepared_unlinked}
-use Rattle.pt_rule.proofs.LookKept.{lowest_has}
+use Rattle.pt_view.proofs.Paths.{lowest_has}
 
 -- a frame that a view doesn't prepare has no bridge of it
 pub bridge_none : (f : Layout) (g i : ℕ) (o : Option Prepared) → is_prepared g o ≡ false → bridge_in f g i o ≡ 0

@@ -1,11 +1,11 @@
 -- The steps of a growth, a store of the bridge, the exchange of the root and, where that was lost, a store of zero,
 -- are what a holder's call of grow says.
-use Rattle.std.proofs.Common.{◌≡◌, ◌≢◌, ℕ, ◌+◌, ◌-◌, ◌%◌, ◌≤◌, List, [], ◌∷◌, sym, refl, ap, ◌∙◌, subst, arith}
+use Rattle.std.proofs.Common.{◌≡◌, ◌≢◌, ℕ, ◌+◌, ◌%◌, List, [], ◌∷◌, sym, refl, ap, ◌∙◌, subst, arith}
 use Rattle.std.specs.Prelude.{None, Some}
 use mathlib.Core.Logic.{dite}
 use native.Mathlib.Decide.{ℕ_discrete}
 use Rattle.pt_model.specs.Layout.{Layout, input_pages}
-use Rattle.pt_model.specs.Tables.{spine_position, starting_top}
+use Rattle.pt_model.specs.Tables.{spine_position}
 use Rattle.pt_model.specs.Words.{root_word}
 use Rattle.pt_view.specs.declared.view.View.{View}
 use Rattle.pt_view.specs.declared.view.Node.{Node}

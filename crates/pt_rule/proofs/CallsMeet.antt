@@ -1,12 +1,10 @@
 -- The law of calls, kind by kind.
-use Rattle.std.proofs.Common.{◌≡◌, ◌≢◌, ◌⊎◌, ℕ, ◌<◌, ◌≤◌, List, [], ◌∷◌, ◌++◌, refl, ap, sym, ◌∙◌, subst, arith}
-use Rattle.std.specs.Prelude.{Option, Some, IsTrue}
+use Rattle.std.proofs.Common.{◌≡◌, ◌≢◌, ℕ, ◌≤◌, [], ◌∷◌, ◌++◌, refl, ap, sym, ◌∙◌, subst, arith}
+use Rattle.std.specs.Prelude.{Option}
 use Rattle.pt_model.specs.declared.position.Position.{Position}
-use Rattle.pt_model.specs.declared.block.Prot.{Prot}
-use Rattle.pt_model.specs.Layout.{Layout, input_pages}
-use Rattle.pt_model.specs.Sets.{IsAmong}
-use Rattle.pt_model.specs.Tables.{child_at, is_spine, spine_position}
-use Rattle.pt_model.specs.Words.{frame_address, frame_limit, frame_named, root_word}
+use Rattle.pt_model.specs.Layout.{Layout}
+use Rattle.pt_model.specs.Tables.{child_at}
+use Rattle.pt_model.specs.Words.{frame_address, frame_limit, frame_named}
 use Rattle.pt_format.specs.Words.{IsPointer, IsWritten, MayBeLeaf, a_leaf, a_pointer}
 use Rattle.pt_format.specs.Laws.{IsLayout, WordsDiffer}
 use Rattle.pt_format.specs.Manual.{StepsAgree}
@@ -14,8 +12,8 @@ use Rattle.pt_view.specs.declared.view.View.{View}
 use Rattle.pt_view.specs.declared.view.Prepared.{Prepared}
 use Rattle.pt_view.specs.declared.holder.Won.TheVariants.{Yes, Met}
 use Rattle.pt_view.specs.Pieces.{level_of}
-use Rattle.pt_view.specs.Calls.{InstallFinds, IsEntryAt, IsGrown, IsUnlinked, MayGrow, MayInstall, MayUnlink, MeetsEntry}
-use Rattle.pt_rule.specs.Kinds.{EntryTells, InstallTells, IsLowestIn, Kind, May, Tells, zero as tells_zero, own, pointer, after, frame_of, installed, met, take, place, unplace, free, mark, look_tag, load_root, look, install, write, clear, unlink, bridge, unbridge, raise}
+use Rattle.pt_view.specs.Calls.{InstallFinds, IsEntryAt, IsGrown, IsUnlinked, MayInstall, MeetsEntry}
+use Rattle.pt_rule.specs.Kinds.{EntryTells, InstallTells, May, zero as tells_zero, own, pointer, after, frame_of, installed, met, take, place, unplace, free, mark, look_tag, load_root, look, install, write, clear, unlink, bridge, unbridge, raise}
 use Rattle.pt_rule.specs.Kinds.{MayCut}
 use Rattle.pt_rule.specs.Meets.{Enters, GoesInto, GrowMeets, Installs, StepsMeet, Always, IsWhole, UnlinkMeets, in_child, out_of_child}
 use Rattle.pt_rule.proofs.PieceFacts.{may_be_leaf}

@@ -1,22 +1,18 @@
 -- What a load of the root tells meets the clauses of a holder's call.
-use Rattle.std.proofs.Common.{◌≡◌, inl, inr, true, ℕ, zero, suc, ◌+◌, ◌-◌, ◌/◌, ◌%◌, ◌<◌, ◌≤◌, List, ◌∷◌, ◌++◌, sym, refl, ap, subst, arith, ⊎_elim}
+use Rattle.std.proofs.Common.{◌≡◌, inl, inr, true, ℕ, ◌+◌, ◌-◌, ◌/◌, ◌%◌, ◌<◌, ◌≤◌, List, ◌∷◌, ◌++◌, sym, refl, ap, subst, arith, ⊎_elim}
 use Rattle.std.specs.Prelude.{IsTrue, nat_le, ◌==◌, map}
-use Rattle.std.specs.List.{range_with_len}
 use Rattle.std.proofs.lemmas.Bool.{and_parts, eqb-true, leb-true}
-use mathlib.Core.Logic.{dite}
-use native.Mathlib.Decide.{ℕ_discrete}
+use Rattle.pt_model.proofs.Positions.{among_append, among_cases, among_here, among_left, among_levels, among_more, among_right, levels_among, same_position}
 use Rattle.pt_model.specs.declared.position.Position.{Position}
 use Rattle.pt_model.specs.Layout.{Layout, input_pages}
 use Rattle.pt_model.specs.Tables.{is_spine, levels_between, spine_position, starting_top}
 use Rattle.pt_view.specs.declared.view.View.{View}
-use Rattle.pt_model.specs.Sets.{AddsPositions, IsAmong, SamePositions, places}
+use Rattle.pt_model.specs.Sets.{AddsPositions, IsAmong, SamePositions}
 use Rattle.pt_view.specs.Lists.{SameFrames}
 use Rattle.pt_view.specs.Views.{SameHistory, SamePurse}
 use Rattle.pt_view.specs.Calls.{Rooted}
 use Rattle.pt_rule.specs.Kinds.{RootTells, after, load_root}
-use Rattle.pt_rule.proofs.TotalsKept.{among_cases, among_here, among_more, places_append}
-use Rattle.pt_rule.proofs.PositionFacts.{same_position}
-use Rattle.pt_rule.proofs.RootKept.{among_append, spine_among, spine_is}
+use Rattle.pt_rule.proofs.RootKept.{spine_is}
 
 pub same_frames : (xs : List ℕ) → SameFrames xs xs
 same_frames xs x = (λ h. h, λ h. h)
@@ -37,19 +33,6 @@ one_more q ps p = (
   λ h. ⊎_elim (λ (e : p ≡ q). subst (IsAmong (q ∷ ps)) (sym e) (among_here q ps)) (λ (old : IsAmong ps p). among_more p q ps old) h,
 )
 
-pub among_left : (p : Position) (xs ys : List Position) → IsAmong xs p → IsAmong (xs ++ ys) p
-among_left p xs ys h = let some_one : 0 < places p xs = h in let e = places_append p xs ys in omega arith
-
-pub among_right : (p : Position) (xs ys : List Position) → IsAmong ys p → IsAmong (xs ++ ys) p
-among_right p xs ys h = let some_one : 0 < places p ys = h in let e = places_append p xs ys in omega arith
-
-pub among_spine : (n low level : ℕ) → low ≤ level → level < low + n → IsAmong (map spine_position (range_with_len low n)) (spine_position level)
-among_spine zero low level a b = absurd (omega arith)
-among_spine (suc n) low level a b = dite (ℕ_discrete level low)
-    (λ e. subst (λ (k : ℕ). IsAmong (map spine_position (range_with_len low (suc n))) (spine_position k)) (sym e)
-    (among_here (spine_position low) (map spine_position (range_with_len (low + 1) n))))
-    (λ ne. among_more (spine_position level) (spine_position low) (map spine_position (range_with_len (low + 1) n)) (among_spine n (low + 1) level (omega arith) (omega arith)))
-
 -- a position of the spine is one of its levels'
 pub spine_back : (levels : ℕ) (p : Position) → IsTrue (is_spine levels p) → (starting_top levels ≤ p.level) × (p ≡ spine_position p.level)
 spine_back levels p s =
@@ -63,7 +46,7 @@ spine_adds levels level old p = (
   λ h. ⊎_elim
       (λ (new : IsAmong spine p).
       let t : (k : ℕ) × (starting_top levels ≤ k) × (k < starting_top levels + (level + 1 - starting_top levels)) × (p ≡ spine_position k) =
-      spine_among (level + 1 - starting_top levels) (starting_top levels) p new in
+      among_levels spine_position (level + 1 - starting_top levels) (starting_top levels) p new in
       let from = t.1 in let to = t.2 in let is : p.level ≡ t.0 = ap (λ (q : Position). q.level) t.3 in
       inl (subst (λ (q : Position). IsTrue (is_spine levels q)) (sym t.3) (spine_is levels t.0 from), omega arith))
       (λ (rest : IsAmong old p). inr rest)
@@ -72,7 +55,7 @@ spine_adds levels level old p = (
       (λ (new : IsTrue (is_spine levels p) × (p.level ≤ level)).
       let b : (starting_top levels ≤ p.level) × (p ≡ spine_position p.level) = spine_back levels p new.0 in
       let low = b.0 in let up = new.1 in
-      among_left p spine old (subst (IsAmong spine) (sym b.1) (among_spine (level + 1 - starting_top levels) (starting_top levels) p.level low (omega arith))))
+      among_left p spine old (subst (IsAmong spine) (sym b.1) (levels_among spine_position (level + 1 - starting_top levels) (starting_top levels) p.level low (omega arith))))
       (λ (rest : IsAmong old p). among_right p spine old rest) h,
 )
   where

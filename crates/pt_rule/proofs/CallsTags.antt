@@ -9,7 +9,7 @@ use Rattle.pt_model.specs.Sets.{SamePositions}
 use Rattle.pt_view.specs.Lists.{IsIn, AddsFrame, SameFrames}
 use Rattle.pt_view.specs.Calls.{IsPlaced, IsTaken, IsUnplaced}
 use Rattle.pt_rule.specs.Kinds.{after, place, rest_of, take, unplace}
-use Rattle.pt_rule.proofs.TotalsKept.{in_cases, in_here, in_more}
+use Rattle.pt_view.proofs.Members.{in_cases, in_here, in_more}
 
 same_frames : (xs : List ℕ) → SameFrames xs xs
 same_frames xs x = (λ h. h, λ h. h)

@@ -1,8 +1,11 @@
 -- A load of an entry, a store of zero to it and a store of the child's tag are what a holder's call of unlink says:
 -- the load goes into the child, the first store leaves and prepares it, and the second puts its frame into the purse.
-use Rattle.std.proofs.Common.{◌≡◌, ◌≢◌, ℕ, true, false, ◌+◌, ◌<◌, ◌≤◌, List, [], ◌∷◌, ◌++◌, length, refl, ap, sym, ◌∙◌, subst, ⊎_elim, arith}
+use Rattle.std.proofs.Common.{◌≡◌, ◌≢◌, ℕ, true, false, ◌<◌, ◌≤◌, List, ◌∷◌, refl, ap, sym, ◌∙◌, subst, ⊎_elim, arith}
 use Rattle.std.specs.Prelude.{◌&&◌, nat_lt, nat_le, Option, None, Some}
 use Rattle.std.proofs.lemmas.Bool.{and_parts, and_from, false≢true, leb-true, lt-ltb, le-leb}
+use Rattle.pt_model.proofs.Positions.{among_cases, among_more, is_same_self}
+use Rattle.pt_model.proofs.Quotients.{entry_some}
+use Rattle.pt_view.proofs.Paths.{front_snoc, lowest_snoc}
 use Rattle.pt_model.specs.declared.block.Prot.{Prot}
 use Rattle.pt_model.specs.declared.position.Position.{Position}
 use Rattle.pt_model.specs.Layout.{Layout, table}
@@ -15,25 +18,13 @@ use Rattle.pt_view.specs.declared.view.View.{View}
 use Rattle.pt_view.specs.declared.view.Node.{Node}
 use Rattle.pt_model.specs.Sets.{IsAmong, RemovesPosition, without_position}
 use Rattle.pt_view.specs.Pieces.{first_of}
-use Rattle.pt_view.specs.Calls.{above, begins_under, entry_first, entry_end, is_under, lowest, span_end, IsEntryAt, IsUnlinked, MayUnlink, MeetsEntry}
+use Rattle.pt_view.specs.Calls.{begins_under, entry_first, entry_end, is_under, lowest, span_end, IsEntryAt, IsUnlinked, MayUnlink, MeetsEntry}
 use Rattle.pt_rule.specs.Kinds.{EntryTells, zero as tells_zero, own, pointer, IsLowestIn, May, MayCut, after, deeper, met, unlink, unlinked, unplace}
-use Rattle.pt_rule.proofs.TotalsKept.{among_cases, among_more, same_self}
-use Rattle.pt_rule.proofs.PositionFacts.{entry_some}
 use Rattle.pt_rule.proofs.TreeFacts.{entry_of_piece, frame_back, is_address}
 use Rattle.pt_rule.proofs.LookKept.{after_some, entered, entry_position}
 use Rattle.pt_rule.proofs.Dropped.{without_is}
 
 -- A path with one node more: its last node, and the rest.
-
-lowest_more : (xs : List Node) (x : Node) → lowest (xs ++ x ∷ []) ≡ Some x
-lowest_more [] x = refl
-lowest_more (y ∷ []) x = refl
-lowest_more (y ∷ z ∷ zs) x = lowest_more (z ∷ zs) x
-
-above_more : (xs : List Node) (x : Node) → above (xs ++ x ∷ []) ≡ xs
-above_more [] x = refl
-above_more (y ∷ []) x = refl
-above_more (y ∷ z ∷ zs) x = ap (λ (ws : List Node). y ∷ ws) (above_more (z ∷ zs) x)
 
 module _ (f : Layout) (n : ℕ) (good : IsLayout f) (d : WordsDiffer f) (a : StepsAgree f) (few : n ≤ frame_limit f) (v : View) (number : ℕ) (may : MayUnlink f v number) where
   abbrev pub place : Position
@@ -146,8 +137,8 @@ module _ (f : Layout) (n : ℕ) (good : IsLayout f) (d : WordsDiffer f) (a : Ste
         record {
           position = place;
           child = h;
-          over = ap lowest (above_more v.path (node h)) ∙ down.1 ∙ ap (λ (p : Position). Some (record { frame = frame; position = p })) same;
-          last = lowest_more v.path (node h);
+          over = ap lowest (front_snoc v.path (node h)) ∙ down.1 ∙ ap (λ (p : Position). Some (record { frame = frame; position = p })) same;
+          last = lowest_snoc v.path (node h);
           within = may.entry.within;
           bare = record { high = may.bare.high; off_spine = may.bare.off_spine; inside = may.bare.inside; no_piece = may.bare.no_piece; no_table = may.bare.no_table };
           none = may.none;
@@ -163,7 +154,7 @@ module _ (f : Layout) (n : ℕ) (good : IsLayout f) (d : WordsDiffer f) (a : Ste
 
     pub cut_is : (frame found : ℕ) → after f (unlink frame number) found (inside h) ≡ cut
     cut_is frame found =
-        ap (λ (o : Option Node). unlinked o (inside h)) (lowest_more v.path (node h)) ∙ ap (λ (xs : List Node). record cut { path = xs }) (above_more v.path (node h))
+        ap (λ (o : Option Node). unlinked o (inside h)) (lowest_snoc v.path (node h)) ∙ ap (λ (xs : List Node). record cut { path = xs }) (front_snoc v.path (node h))
 
     -- the second one may be made
     pub may_unplace : May f n (unplace h) cut
@@ -174,7 +165,7 @@ module _ (f : Layout) (n : ℕ) (good : IsLayout f) (d : WordsDiffer f) (a : Ste
     known_is q = (
       λ m. let k : (is_same child q ≡ false) × IsAmong (child ∷ v.known) q = (without_is child (child ∷ v.known) q).0 m in (
         k.0,
-        ⊎_elim (λ (e : q ≡ child). absurd (false≢true (sym k.0 ∙ ap (is_same child) e ∙ same_self child))) (λ (old : IsAmong v.known q). old) (among_cases q child v.known k.1),
+        ⊎_elim (λ (e : q ≡ child). absurd (false≢true (sym k.0 ∙ ap (is_same child) e ∙ is_same_self child child refl))) (λ (old : IsAmong v.known q). old) (among_cases q child v.known k.1),
       ),
       λ m. (without_is child (child ∷ v.known) q).1 (m.0, among_more q child v.known m.1),
     )

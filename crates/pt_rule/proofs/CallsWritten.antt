@@ -17,8 +17,8 @@ use Rattle.pt_view.specs.declared.view.Change.TheVariants.{Written}
 use Rattle.pt_view.specs.Pieces.{add_piece, first_of, table_of, number_of, level_of, word_of, words_of}
 use Rattle.pt_view.specs.Calls.{IsEntryAt, IsWritten, MayPut}
 use Rattle.pt_rule.specs.Kinds.{written}
-use Rattle.pt_rule.proofs.PositionFacts.{quotient, whole}
-use Rattle.pt_rule.proofs.PieceFacts.{one_here}
+use Rattle.pt_model.proofs.Quotients.{quotient, whole}
+use Rattle.pt_view.proofs.Pieces.{one_here}
 use Rattle.pt_rule.proofs.PathOver.{block_is, piece_within}
 
 -- an entry of a path's last table is at one position

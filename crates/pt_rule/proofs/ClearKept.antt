@@ -20,13 +20,15 @@ use Rattle.pt_rule.specs.Linked.{IsLinked, IsLinkedAt, is_in_tree}
 use Rattle.pt_rule.specs.Lawful.{Lawful, EntriesPart, HasBook, IsOnPath, IsOwnPiece, IsOwnTable, slot_of, has_child}
 use Rattle.pt_rule.specs.Kinds.{Keeps, IsLowestIn, ClearTells, clear, cleared}
 use Rattle.pt_model.proofs.Places.{entry_same, entry_else, tag_after_entry, root_after_entry, length_kept}
-use Rattle.pt_rule.proofs.TotalsKept.{total_at, total_only, total_same, total_set, total_two, each_set, all_map}
+use Rattle.pt_rule.proofs.TotalsKept.{total_at, total_only, total_same, total_set, total_two, each_set}
+use Rattle.pt_view.proofs.Members.{all_map}
+use Rattle.pt_view.proofs.Paths.{lowest_has}
+use Rattle.pt_view.proofs.Pieces.{one_here}
 use Rattle.pt_rule.proofs.PartsKept.{SameLinks, links_same, linked_back, SameTree, tree_same, spans_set, frames_same, positions_same, root_same, parents_same, books_set, paths_set, path_same, purses_same, sizes_same, busy_set, known_set}
 use Rattle.pt_rule.proofs.PositionFacts.{child_of_parent, slot_below}
-use Rattle.pt_rule.proofs.PieceFacts.{one_here, no_words}
+use Rattle.pt_rule.proofs.PieceFacts.{no_words}
 use Rattle.pt_rule.proofs.TreeFacts.{is_position, linked_there, no_words_of, one_frame}
 use Rattle.pt_rule.proofs.FindsKept.{piece_kept, table_kept}
-use Rattle.pt_rule.proofs.LookKept.{lowest_has}
 use Rattle.pt_rule.proofs.Dropped.{all_filtered, entry_cases, member_counts, member_word, none_left, pieces_left, words_left, order_left}
 
 module _ (f : Layout) (n l : ℕ) (good : IsLayout f) (words : List ℕ) (views : List View) (r : Lawful f n l words views) (id : ℕ) (v : View) (at : get_elem? views id ≡ some v) (live : 0 < v.count) (frame number : ℕ) (x : Piece) (down : IsLowestIn v frame) (may : MayDrop f v number x) where

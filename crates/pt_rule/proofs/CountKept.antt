@@ -10,9 +10,10 @@ use mathlib.Core.Option.{some}
 use mathlib.Core.Logic.{dite}
 use native.Mathlib.Decide.{ℕ_discrete, dec_le}
 use lib.ListN.{get_elem?}
+use Rattle.pt_view.proofs.Members.{all_append, times_append}
 use Rattle.pt_model.specs.declared.position.Position.{Position}
 use Rattle.pt_model.specs.Layout.{Layout, input_pages}
-use Rattle.pt_model.specs.Tables.{is_before, is_same, is_spine, levels_between, spine_position, starting_top}
+use Rattle.pt_model.specs.Tables.{is_same, is_spine, levels_between, spine_position, starting_top}
 use Rattle.pt_model.specs.Words.{tag, placed_at, placed_word, root_level}
 use Rattle.pt_format.specs.Laws.{IsLayout}
 use Rattle.pt_view.specs.declared.view.View.{View}
@@ -24,41 +25,15 @@ use Rattle.pt_view.specs.Views.{linked_of}
 use Rattle.pt_rule.specs.Totals.{total, is_prepared, prepares}
 use Rattle.pt_rule.specs.Tags.{free, held, placed, held_word, is_held, is_placed}
 use Rattle.pt_rule.specs.Linked.{IsLinked, IsLinkedAt, is_in_tree}
-use Rattle.pt_rule.specs.Lawful.{Lawful, InOrder, IsOwnTable}
-use Rattle.pt_rule.proofs.TotalsKept.{all_append, all_among, among_all, among_here, among_more, bit_false, bit_le, bit_true, places_append, places_else, same_cases, same_self, times_append}
+use Rattle.pt_rule.specs.Lawful.{Lawful, IsOwnTable}
 use Rattle.pt_rule.proofs.Few.{distinct_few, length_sum, sum_below}
-use Rattle.pt_rule.proofs.PositionFacts.{same_position}
-use Rattle.pt_model.proofs.Positions.{before_lower, before_self}
+use Rattle.pt_model.proofs.Positions.{bit_le, bit_true, bit_false, is_same_self, same_cases, places_append, among_all, all_among, same_position, levels_among, sorted_once, sorted_levels}
 use Rattle.pt_rule.proofs.PathTables.{all_levels}
 use Rattle.pt_rule.proofs.TreeFacts.{level_low, one_frame, spine_there, table_there, whole_alone, whole_tree}
 use Rattle.pt_rule.proofs.RootKept.{spine_is}
 use Rattle.pt_rule.proofs.AloneKept.{alone}
 
 -- Lists of positions.
-
--- a position stands in a list in order once at most
-order_once : (ps : List Position) (p : Position) → InOrder ps → places p ps ≤ 1
-order_once [] p s = omega arith
-order_once (q ∷ qs) p s = ⊎_elim
-    (λ (e : p ≡ q).
-    let none : places p qs ≡ 0 = dite (dec_le (places p qs) 0) (λ le. omega arith)
-    (λ some_one. let later : IsAmong qs p = omega arith in absurd (before_self p (subst (λ (z : Position). is_before z p ≡ true) (sym e) (among_all (λ r. IsTrue (is_before q r)) qs s.0 p later)))) in
-    let most = bit_le (is_same p q) in omega arith)
-    (λ (ne : is_same p q ≡ false). let rest = order_once qs p s.1 in let e = places_else p q qs ne in omega arith) (same_cases p q)
-
-spine_order : (count low : ℕ) → InOrder (map spine_position (range_with_len low count))
-spine_order zero low = tt
-spine_order (suc count) low = (after count (low + 1) (omega arith), spine_order count (low + 1))
-  where
-    after : (more from : ℕ) → low < from → AllByRecursion (λ q. IsTrue (is_before (spine_position low) q)) (map spine_position (range_with_len from more))
-    after zero from h = tt
-    after (suc more) from h = (before_lower (spine_position low) (spine_position from) h, after more (from + 1) (omega arith))
-
-spine_has : (count low k : ℕ) → low ≤ k → k < low + count → IsAmong (map spine_position (range_with_len low count)) (spine_position k)
-spine_has zero low k from to = absurd (omega arith)
-spine_has (suc count) low k from to = dite (ℕ_discrete k low)
-    (λ e. subst (λ (z : ℕ). IsAmong (map spine_position (range_with_len low (suc count))) (spine_position z)) (sym e) (among_here (spine_position low) (map spine_position (range_with_len (low + 1) count))))
-    (λ ne. among_more (spine_position k) (spine_position low) (map spine_position (range_with_len (low + 1) count)) (spine_has count (low + 1) k (omega arith) (omega arith)))
 
 spine_all : (levels low count : ℕ) → starting_top levels ≤ low → AllByRecursion (λ p. IsTrue (is_spine levels p)) (map spine_position (range_with_len low count))
 spine_all levels low zero h = tt
@@ -122,8 +97,8 @@ module _ (f : Layout) (n l : ℕ) (good : IsLayout f) (words : List ℕ) (v : Vi
   once : (p : Position) → places p positions ≤ 1
   once p =
       let sum = places_append p v.tables spine in
-      let a = order_once v.tables p (r.books 0 v refl live).in_order in
-      let b = order_once spine p (spine_order (v.top + 1 - starting_top v.levels) (starting_top v.levels)) in
+      let a = sorted_once v.tables (r.books 0 v refl live).in_order p in
+      let b = sorted_once spine (sorted_levels spine_position (λ k. refl) (v.top + 1 - starting_top v.levels) (starting_top v.levels)) p in
       dite (dec_le (places p v.tables) 0) (λ none. omega arith)
       (λ some_one.
       let known : IsAmong v.tables p = omega arith in
@@ -141,7 +116,7 @@ module _ (f : Layout) (n l : ℕ) (good : IsLayout f) (words : List ℕ) (v : Vi
       let high = level_low f n l words (v ∷ []) good r p t in
       let top = top_is in
       let on : IsAmong spine p = subst (IsAmong spine) (sym (same_position p (spine_position p.level) refl (eqb-true p.base 0 b.1)))
-      (spine_has (v.top + 1 - starting_top v.levels) (starting_top v.levels) p.level low (omega arith)) in
+      (levels_among spine_position (v.top + 1 - starting_top v.levels) (starting_top v.levels) p.level low (omega arith)) in
       let sum = places_append p v.tables spine in omega arith)
       (whole_tree f n l words (v ∷ []) good r 0 v refl live whole p t)
 
@@ -166,7 +141,7 @@ module _ (f : Layout) (n l : ℕ) (good : IsLayout f) (words : List ℕ) (v : Vi
       let one : one_if (c.0 == g) ≡ one_if (is_same q p) = dite (ℕ_discrete c.0 g)
       (λ e.
       let same : q ≡ p = sym (ap (λ (z : ℕ). placed_at (tag words z)) e) ∙ c.1.at in
-      bit_true (c.0 == g) (eq-eqb c.0 g e) ∙ sym (bit_true (is_same q p) (ap (is_same q) (sym same) ∙ same_self q)))
+      bit_true (c.0 == g) (eq-eqb c.0 g e) ∙ sym (bit_true (is_same q p) (ap (is_same q) (sym same) ∙ is_same_self q q refl)))
       (λ ne. ⊎_elim
       (λ (e : q ≡ p). absurd (ne (one_frame f n l words (v ∷ []) good r c.0 g p c.1 (subst (IsLinkedAt n words (v ∷ []) g) e here))))
       (λ (no : is_same q p ≡ false). bit_false (c.0 == g) (ne_eqb c.0 g ne) ∙ sym (bit_false (is_same q p) no)) (same_cases q p)) in

@@ -1,8 +1,8 @@
 -- The parts of a view that is cut at a page.
-use Rattle.std.proofs.Common.{◌≡◌, ◌⊎◌, inl, inr, ℕ, zero, suc, Bool, true, false, ◌+◌, ◌*◌, ◌<◌, ◌≤◌, List, [], ◌∷◌, ◌++◌, set, refl, sym, ap, ◌∙◌, subst, arith, ⊎_elim}
-use Rattle.std.specs.Prelude.{IsTrue, Option, filter, nat_le, nat_lt, ◌&&◌, not, if◌then◌else◌}
+use Rattle.std.proofs.Common.{◌≡◌, ℕ, zero, suc, Bool, true, false, ◌+◌, ◌*◌, ◌<◌, ◌≤◌, List, [], ◌∷◌, ◌++◌, set, refl, sym, ◌∙◌, subst, arith, ⊎_elim}
+use Rattle.std.specs.Prelude.{Option, filter, nat_le, nat_lt, ◌&&◌, not, if◌then◌else◌}
 use Rattle.std.specs.List.{AllByRecursion}
-use Rattle.std.proofs.lemmas.Bool.{false≢true, lt-ltb}
+use Rattle.std.proofs.lemmas.Bool.{lt-ltb}
 use Rattle.std.proofs.lemmas.Bool.Decides.{nat_tests}
 use mathlib.Core.Option.{some}
 use mathlib.Core.Logic.{dite}
@@ -11,16 +11,15 @@ use lib.ListN.{get_elem?}
 use Rattle.atomic_table.proofs.Lists.{at_snoc}
 use Rattle.pt_model.specs.declared.position.Position.{Position}
 use Rattle.pt_model.specs.Layout.{Layout}
-use Rattle.pt_model.specs.Tables.{is_before}
 use Rattle.pt_view.specs.declared.view.View.{View}
 use Rattle.pt_view.specs.declared.view.Piece.{Piece}
-use Rattle.pt_model.specs.Sets.{IsAmong, one_if}
+use Rattle.pt_model.specs.Sets.{one_if}
 use Rattle.pt_view.specs.Pieces.{first_of, word_of}
 use Rattle.pt_view.specs.Calls.{pieces_at}
 use Rattle.pt_rule.specs.Totals.{Each, total, words_at}
 use Rattle.pt_rule.specs.Tags.{Chained, IsEnd, first_or}
-use Rattle.pt_rule.specs.Lawful.{InOrder, PiecesInOrder}
-use Rattle.pt_rule.proofs.TotalsKept.{total_set, among_cases, among_here, among_more}
+use Rattle.pt_rule.specs.Lawful.{PiecesInOrder}
+use Rattle.pt_rule.proofs.TotalsKept.{total_set}
 use Rattle.pt_rule.specs.Cuts.{seam_of}
 
 -- A view put last.
@@ -85,14 +84,6 @@ pieces_sum f p i t xs = parts_sum t (pieces_at f p i) (λ x. pieces_at f p i (x 
 pub words_sum : (f : Layout) (p : Position) (i : ℕ) (t : Piece → Bool) (xs : List Piece) → words_at f p i (filter t xs) + words_at f p i (filter (λ x. not (t x)) xs) ≡ words_at f p i xs
 words_sum f p i t xs = parts_sum t (words_at f p i) (λ x. pieces_at f p i (x ∷ []) * word_of f x) refl (λ x ys. refl) xs
 
-pub order_filter : (t : Position → Bool) (ps : List Position) → InOrder ps → InOrder (filter t ps)
-order_filter t [] h = tt
-order_filter t (p ∷ ps) h = go (t p) (order_filter t ps h.1)
-  where
-    go : (b : Bool) → InOrder (filter t ps) → InOrder (if b then p ∷ filter t ps else filter t ps)
-    go true rest = (all_sub t (λ q. IsTrue (is_before p q)) ps h.0, rest)
-    go false rest = rest
-
 pub pieces_filter : (f : Layout) (t : Piece → Bool) (xs : List Piece) → PiecesInOrder f xs → PiecesInOrder f (filter t xs)
 pieces_filter f t [] h = tt
 pieces_filter f t (x ∷ xs) h = go (t x) (pieces_filter f t xs h.1)
@@ -102,24 +93,6 @@ pieces_filter f t (x ∷ xs) h = go (t x) (pieces_filter f t xs h.1)
     go false rest = rest
 
 -- Positions that pass a test.
-pub among_filter : (t : Position → Bool) (ps : List Position) (p : Position) → IsAmong (filter t ps) p → IsAmong ps p × (t p ≡ true)
-among_filter t [] p h = absurd (omega arith)
-among_filter t (q ∷ qs) p h = go (t q) refl (among_filter t qs p) h
-  where
-    go : (b : Bool) → t q ≡ b → (IsAmong (filter t qs) p → IsAmong qs p × (t p ≡ true)) → IsAmong (if b then q ∷ filter t qs else filter t qs) p → IsAmong (q ∷ qs) p × (t p ≡ true)
-    go true e more m = ⊎_elim (λ (same : p ≡ q). (subst (IsAmong (q ∷ qs)) (sym same) (among_here q qs), ap t same ∙ e))
-        (λ (rest : IsAmong (filter t qs) p). let r = more rest in (among_more p q qs r.0, r.1)) (among_cases p q (filter t qs) m)
-    go false e more m = let r = more m in (among_more p q qs r.0, r.1)
-
-pub filter_among : (t : Position → Bool) (ps : List Position) (p : Position) → IsAmong ps p → t p ≡ true → IsAmong (filter t ps) p
-filter_among t [] p h passes = absurd (omega arith)
-filter_among t (q ∷ qs) p h passes = go (t q) refl (λ rest. filter_among t qs p rest passes) (among_cases p q qs h)
-  where
-    go : (b : Bool) → t q ≡ b → (IsAmong qs p → IsAmong (filter t qs) p) → (p ≡ q) ⊎ IsAmong qs p → IsAmong (if b then q ∷ filter t qs else filter t qs) p
-    go true e more (inl same) = subst (IsAmong (q ∷ filter t qs)) (sym same) (among_here q (filter t qs))
-    go true e more (inr rest) = among_more p q (filter t qs) (more rest)
-    go false e more (inl same) = absurd (false≢true (sym e ∙ ap t (sym same) ∙ passes))
-    go false e more (inr rest) = more rest
 
 -- two numbers are some or none alike
 pub some_alike : (a b : ℕ) → (0 < a → 0 < b) → (0 < b → 0 < a) → nat_lt 0 a ≡ nat_lt 0 b

@@ -1,23 +1,22 @@
 -- Lists without some items: the pieces that stand elsewhere than at an entry, and the positions but for one.
-use Rattle.std.proofs.Common.{◌≡◌, ◌⊎◌, inl, inr, ℕ, Bool, true, false, ◌+◌, ◌*◌, ◌<◌, ◌≤◌, List, [], ◌∷◌, length, refl, ap, sym, ◌∙◌, subst, ⊎_elim, arith}
-use Rattle.std.specs.Prelude.{IsTrue, ◌==◌, ◌&&◌, not, filter}
+use Rattle.std.proofs.Common.{◌≡◌, ◌⊎◌, inl, inr, ℕ, Bool, true, false, ◌+◌, ◌*◌, ◌≤◌, List, [], ◌∷◌, length, refl, ap, sym, ◌∙◌, subst, ⊎_elim, arith}
+use Rattle.std.specs.Prelude.{◌==◌, ◌&&◌, not, filter}
 use Rattle.std.specs.List.{AllByRecursion}
 use Rattle.std.proofs.lemmas.Bool.{cases_Bool, eqb-true, false≢true, eq-eqb}
 use mathlib.Core.Logic.{dite}
 use native.Mathlib.Decide.{ℕ_discrete, dec_le}
+use Rattle.pt_view.proofs.Pieces.{one_here}
 use Rattle.pt_model.specs.declared.position.Position.{Position}
 use Rattle.pt_model.specs.Layout.{Layout}
 use Rattle.pt_model.specs.Tables.{is_before, is_same}
 use Rattle.pt_view.specs.declared.view.Piece.{Piece}
-use Rattle.pt_model.specs.Sets.{places, IsAmong, RemovesPosition, without_position}
+use Rattle.pt_model.specs.Sets.{IsAmong, RemovesPosition, without_position, IsSorted}
 use Rattle.pt_view.specs.Pieces.{IsOneOf, first_of, table_of, number_of, word_of}
 use Rattle.pt_view.specs.Calls.{drop_at, pieces_at}
 use Rattle.pt_rule.specs.Totals.{words_at}
-use Rattle.pt_rule.specs.Lawful.{InOrder, PiecesInOrder}
-use Rattle.pt_rule.proofs.TotalsKept.{among_all, among_cases, among_here, same_tells, same_cases, same_self, bit_le}
-use Rattle.pt_rule.proofs.PieceFacts.{one_here, no_words}
-use Rattle.pt_model.proofs.Positions.{before_self}
-use Rattle.pt_rule.proofs.PathTables.{among_filtered, among_passes}
+use Rattle.pt_rule.specs.Lawful.{PiecesInOrder}
+use Rattle.pt_rule.proofs.PieceFacts.{no_words}
+use Rattle.pt_model.proofs.Positions.{before_self, bit_le, is_same_self, is_same_true, same_cases, among_cases, among_filtered, among_passes, filter_members, same_cases, sorted_filter}
 
 -- Items that pass a test.
 module _ {X : Type 0} (t : X → Bool) where
@@ -37,13 +36,9 @@ module _ {X : Type 0} (t : X → Bool) where
 pub entry_cases : (p : Position) (i : ℕ) (q : Position) (j : ℕ) → ((q ≡ p) × (j ≡ i)) ⊎ (q ≡ p → j ≡ i → ⊥)
 entry_cases p i q j = ⊎_elim
     (λ (e : q ≡ p). dite (ℕ_discrete j i) (λ d. inl (e, d)) (λ ne. inr (λ _ d. ne d)))
-    (λ (ne : is_same q p ≡ false). inr (λ e _. false≢true (sym ne ∙ ap (is_same q) (sym e) ∙ same_self q))) (same_cases q p)
+    (λ (ne : is_same q p ≡ false). inr (λ e _. false≢true (sym ne ∙ ap (is_same q) (sym e) ∙ is_same_self q q refl))) (same_cases q p)
 
 -- Members of a list of pieces.
-
-pub member_has : (P : Piece → Type 0) (xs : List Piece) (x : Piece) → AllByRecursion P xs → IsOneOf xs x → P x
-member_has P [] x all m = absurd m
-member_has P (y ∷ ys) x all m = ⊎_elim (λ (e : y ≡ x). subst P e all.0) (λ (later : IsOneOf ys x). member_has P ys x all.1 later) m
 
 -- An entry: a piece of a list that stands there, and the list without it.
 module _ (f : Layout) (p : Position) (i : ℕ) where
@@ -137,33 +132,27 @@ module _ (p : Position) where
     λ m. among_passes another ps q m.1 (ap not m.0),
   )
 
-  pub order_without : (ps : List Position) → InOrder ps → InOrder (without_position p ps)
-  order_without [] o = tt
-  order_without (q ∷ qs) o = ⊎_elim
-      (λ (e : another q ≡ true). subst InOrder (sym (passes_in another q qs e)) (all_filtered another (λ r. IsTrue (is_before q r)) qs o.0, order_without qs o.1))
-      (λ (e : another q ≡ false). subst InOrder (sym (fails_out another q qs e)) (order_without qs o.1)) (cases_Bool (another q))
+  pub order_without : (ps : List Position) → IsSorted ps → IsSorted (without_position p ps)
+  order_without ps o = sorted_filter another ps o
 
   -- a list without the position loses nothing
   none_lost : (ps : List Position) → (IsAmong ps p → ⊥) → without_position p ps ≡ ps
-  none_lost [] none = refl
-  none_lost (q ∷ qs) none = ⊎_elim
-      (λ (e : is_same p q ≡ true). absurd (none (subst (IsAmong (q ∷ qs)) (sym (same_tells p q e)) (among_here q qs))))
-      (λ (e : is_same p q ≡ false). passes_in another q qs (ap not e) ∙ ap (λ (xs : List Position). q ∷ xs) (none_lost qs (λ m. none (among_later q qs m)))) (cases_Bool (is_same p q))
-    where
-      among_later : (q : Position) (qs : List Position) → IsAmong qs p → IsAmong (q ∷ qs) p
-      among_later q qs m = let some_one : 0 < places p qs = m in omega arith
+  none_lost ps none = filter_members another ps (λ q m. elim (same_cases p q) [
+    | inl e ↦ absurd (none (subst (IsAmong ps) (sym e) m))
+    | inr e ↦ ap not e
+  ])
 
   -- a list in order that has the position loses one
-  pub one_lost : (ps : List Position) → InOrder ps → IsAmong ps p → length (without_position p ps) + 1 ≡ length ps
+  pub one_lost : (ps : List Position) → IsSorted ps → IsAmong ps p → length (without_position p ps) + 1 ≡ length ps
   one_lost [] o m = absurd (omega arith)
   one_lost (q ∷ qs) o m = ⊎_elim
       (λ (e : is_same p q ≡ true).
-      let same : p ≡ q = same_tells p q e in
+      let same : p ≡ q = is_same_true p q e in
       let out : without_position p (q ∷ qs) ≡ qs =
-      fails_out another q qs (ap not e) ∙ none_lost qs (λ k. before_self q (subst (λ r. is_before q r ≡ true) same (among_all (λ r. IsTrue (is_before q r)) qs o.0 p k))) in
+      fails_out another q qs (ap not e) ∙ none_lost qs (λ k. before_self q (subst (λ r. is_before q r ≡ true) same (o.0 p k))) in
       let count : length (without_position p (q ∷ qs)) ≡ length qs = ap (λ (xs : List Position). length xs) out in omega arith)
       (λ (e : is_same p q ≡ false).
-      let later : IsAmong qs p = ⊎_elim (λ (is : p ≡ q). absurd (false≢true (sym e ∙ ap (is_same p) (sym is) ∙ same_self p))) (λ (k : IsAmong qs p). k) (among_cases p q qs m) in
+      let later : IsAmong qs p = ⊎_elim (λ (is : p ≡ q). absurd (false≢true (sym e ∙ ap (is_same p) (sym is) ∙ is_same_self p p refl))) (λ (k : IsAmong qs p). k) (among_cases p q qs m) in
       let rest = one_lost qs o.1 later in
       let count : length (without_position p (q ∷ qs)) ≡ 1 + length (without_position p qs) = ap (λ (xs : List Position). length xs) (passes_in another q qs (ap not e)) ∙ omega arith in omega arith)
       (cases_Bool (is_same p q))

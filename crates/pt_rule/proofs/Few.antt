@@ -5,7 +5,7 @@ use mathlib.Core.Logic.{dite}
 use native.Mathlib.Decide.{ℕ_discrete, dec_le}
 use Rattle.pt_model.specs.Sets.{one_if}
 use Rattle.pt_view.specs.Lists.{times}
-use Rattle.pt_rule.proofs.TotalsKept.{times_here}
+use Rattle.pt_view.proofs.Members.{times_here}
 
 -- f of each number below n, added up
 abbrev pub sum_below : (ℕ → ℕ) → ℕ → ℕ

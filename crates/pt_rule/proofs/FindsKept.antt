@@ -17,14 +17,15 @@ use Rattle.pt_model.specs.Words.{root_level}
 use Rattle.pt_view.specs.declared.view.View.{View}
 use Rattle.pt_view.specs.declared.view.Piece.{Piece}
 use Rattle.pt_view.specs.declared.view.Prepared.{Prepared}
-use Rattle.pt_model.specs.Sets.{one_if, IsAmong, places}
+use Rattle.pt_model.specs.Sets.{one_if, IsAmong, places, IsSorted}
 use Rattle.pt_view.specs.Lists.{IsIn}
 use Rattle.pt_view.specs.Calls.{meets_span}
 use Rattle.pt_view.specs.Views.{SameRange}
 use Rattle.pt_rule.specs.Totals.{total, prepares, has_table, is_prepared}
 use Rattle.pt_rule.specs.Linked.{is_in_tree}
-use Rattle.pt_rule.specs.Lawful.{Lawful, HasPath, InOrder, IsOwnPiece, IsOwnTable, PiecesInOrder}
-use Rattle.pt_rule.proofs.TotalsKept.{total_same, total_some, total_at, at_inside, all_map}
+use Rattle.pt_rule.specs.Lawful.{Lawful, HasPath, IsOwnPiece, IsOwnTable, PiecesInOrder}
+use Rattle.pt_rule.proofs.TotalsKept.{total_same, total_some, total_at, at_inside}
+use Rattle.pt_view.proofs.Members.{all_map}
 use Rattle.pt_rule.proofs.PartsKept.{SameLinks, links_same, SameTree, spans_set, frames_same, positions_same, root_same, parents_same, entries_same, books_set, paths_set, path_same, purses_same, sizes_same, busy_set, known_set}
 
 pub same_bool : (a b : Bool) → (a ≡ true → b ≡ true) → (b ≡ true → a ≡ true) → a ≡ b
@@ -70,7 +71,7 @@ pub record Finds (f : Layout) (n l : ℕ) (words : List ℕ) (views : List View)
   pub kept : (p : Position) → IsAmong v.tables p → IsAmong w.tables p
   pub found : (p : Position) → IsAmong w.tables p → IsTrue (is_in_tree l words views p)
   pub own : AllByRecursion (IsOwnTable f w) w.tables
-  pub in_order : InOrder w.tables
+  pub in_order : IsSorted w.tables
   pub path : HasPath f n words views w
   pub known : (p : Position) → IsAmong w.known p →
       IsTrue (is_in_tree l words views p) × (IsTrue (is_spine w.levels p) ⊎ IsTrue (meets_span w p.base (end_of_table f p)))

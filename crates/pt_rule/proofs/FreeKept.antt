@@ -10,7 +10,9 @@ use Rattle.pt_rule.specs.Totals.{prepares}
 use Rattle.pt_rule.specs.Tags.{IsTag, Chained, is_held, is_placed}
 use Rattle.pt_rule.specs.Kinds.{Keeps, free, rest_of, without}
 use Rattle.pt_model.proofs.Places.{tag_same, tag_else}
-use Rattle.pt_rule.proofs.TotalsKept.{each_set, times_here, times_else, in_here, in_more, in_cases, bit_true}
+use Rattle.pt_rule.proofs.TotalsKept.{each_set}
+use Rattle.pt_model.proofs.Positions.{bit_true}
+use Rattle.pt_view.proofs.Members.{in_cases, in_here, in_more, times_else, times_here}
 use Rattle.pt_rule.proofs.PartsKept.{SameLinks, bridged_to, prepared_moved, prepares_here, chained_else}
 use Rattle.pt_rule.proofs.TagFacts.{IsHeldBy, held_by, held_unplaced, unplaced_unlinked}
 use Rattle.pt_rule.proofs.TagKept.{tag_links, tag_kept}

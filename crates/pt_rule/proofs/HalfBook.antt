@@ -13,10 +13,11 @@ use Rattle.pt_view.specs.declared.view.Piece.{Piece}
 use Rattle.pt_model.specs.Sets.{IsAmong}
 use Rattle.pt_view.specs.Pieces.{IsOneOf}
 use Rattle.pt_rule.specs.Lawful.{HasBook, IsOwnPiece, IsOwnTable}
-use Rattle.pt_rule.proofs.TotalsKept.{all_append, all_map, among_all}
+use Rattle.pt_model.proofs.Positions.{among_all, among_passes, sorted_filter}
+use Rattle.pt_view.proofs.Members.{all_append, all_map}
 use Rattle.pt_rule.proofs.RootKept.{spine_is}
 use Rattle.pt_rule.specs.Cuts.{table_in}
-use Rattle.pt_rule.proofs.CutLists.{all_filter, filter_among, order_filter, pieces_filter}
+use Rattle.pt_rule.proofs.CutLists.{all_filter, pieces_filter}
 
 -- each element of a list is one of it
 with_member : (P : Piece → Type 0) (xs : List Piece) → AllByRecursion P xs → AllByRecursion (λ x. P x × IsOneOf xs x) xs
@@ -70,7 +71,7 @@ module _ (f : Layout) (v : View) (book : HasBook f v) (lo count : ℕ) (t : Piec
         has_needed = all_both (λ p. IsAmong v.tables p ⊎ (IsTrue (is_spine v.levels p) × (p.level ≤ v.top))) (Near f lo (lo + count) v.levels)
             (λ p. IsAmong half.tables p ⊎ (IsTrue (is_spine v.levels p) × (p.level ≤ v.top))) (needed f v.levels x.block)
             (λ p old near. ⊎_elim
-            (λ (m : IsAmong v.tables p). ⊎_elim (λ (meets : table_in f lo (lo + count) p ≡ true). inl (filter_among (table_in f lo (lo + count)) v.tables p m meets))
+            (λ (m : IsAmong v.tables p). ⊎_elim (λ (meets : table_in f lo (lo + count) p ≡ true). inl (among_passes (table_in f lo (lo + count)) v.tables p m meets))
             (λ (spine : is_spine v.levels p ≡ true). absurd (false≢true (sym (among_all (IsOwnTable f v) v.tables book.tables p m).off_spine ∙ spine))) near)
             (λ (s : IsTrue (is_spine v.levels p) × (p.level ≤ v.top)). inr s) old)
             o.has_needed (needed_near f lo (lo + count) v.levels x.block a.0 a.1);
@@ -80,7 +81,7 @@ module _ (f : Layout) (v : View) (book : HasBook f v) (lo count : ℕ) (t : Piec
   half_book = record {
     pieces = all_filter t (λ x. IsOwnPiece f v x × IsOneOf v.pieces x) (IsOwnPiece f half) v.pieces own_half (with_member (IsOwnPiece f v) v.pieces book.pieces);
     tables = all_filter (table_in f lo (lo + count)) (IsOwnTable f v) (IsOwnTable f half) v.tables (λ p o met. record { a_position = o.a_position; off_spine = o.off_spine; meets = met }) book.tables;
-    in_order = order_filter (table_in f lo (lo + count)) v.tables book.in_order;
+    in_order = sorted_filter (table_in f lo (lo + count)) v.tables book.in_order;
     pieces_in_order = pieces_filter f t v.pieces book.pieces_in_order;
     top_low = book.top_low;
     top_high = book.top_high;

@@ -20,7 +20,8 @@ use Rattle.pt_rule.specs.Totals.{total, holds, prepares, is_prepared}
 use Rattle.pt_rule.specs.Tags.{is_held, is_placed}
 use Rattle.pt_rule.specs.Lawful.{Lawful, IsOnPath}
 use Rattle.pt_rule.specs.Kinds.{retrace}
-use Rattle.pt_rule.proofs.TotalsKept.{total_at, bit_true, bit_le, at_inside}
+use Rattle.pt_rule.proofs.TotalsKept.{total_at, at_inside}
+use Rattle.pt_model.proofs.Positions.{bit_le, bit_true}
 use Rattle.pt_rule.proofs.Few.{distinct_few}
 use Rattle.pt_rule.proofs.TreeFacts.{is_position}
 use Rattle.pt_rule.proofs.TagFacts.{held_unplaced}

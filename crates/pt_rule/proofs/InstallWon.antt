@@ -25,7 +25,9 @@ use Rattle.pt_rule.specs.Tags.{IsTag, is_held, is_placed}
 use Rattle.pt_rule.specs.Linked.{IsLinked, IsLinkedAt, is_in_tree}
 use Rattle.pt_rule.specs.Lawful.{Lawful, BooksPart, EntriesPart, FramesPart, HasBridge, HasPath, IsBridged, IsOnPath, IsOwnPiece, IsOwnTable, IsPreparedAt, ParentsPart, PathsPart, PositionsPart, RootPart, has_child, slot_of}
 use Rattle.pt_model.proofs.Places.{entry_else, entry_same, length_kept, root_after_entry, tag_after_entry}
-use Rattle.pt_rule.proofs.TotalsKept.{all_map, among_cases, at_inside, bit_false, bit_le, bit_true, each_set, same_cases, same_self, total_at, total_only, total_same, total_set, total_two}
+use Rattle.pt_rule.proofs.TotalsKept.{at_inside, each_set, total_at, total_only, total_same, total_set, total_two}
+use Rattle.pt_model.proofs.Positions.{among_cases, bit_false, bit_le, bit_true, is_same_self, same_cases}
+use Rattle.pt_view.proofs.Members.{all_map}
 use Rattle.pt_rule.proofs.PartsKept.{prepared_moved, prepared_within, prepares_here, spans_set, books_set, busy_set, known_set, purses_same, sizes_same}
 use Rattle.pt_rule.proofs.PositionFacts.{child_of_parent, parent_of_child, slot_below, slot_of_child}
 use Rattle.pt_rule.proofs.PieceFacts.{word_some}
@@ -199,7 +201,7 @@ module _ (f : Layout) (n l : ℕ) (good : IsLayout f) (d : WordsDiffer f) (words
       let most = total_at (has_table child) views' id w (set_here views id w (at_inside views id v at)) in lt-ltb 0 (total (has_table child) views') (omega arith))
 
   cases_child : (q : Position) → (q ≡ child) ⊎ (q ≡ child → ⊥)
-  cases_child q = ⊎_elim (λ (e : q ≡ child). inl e) (λ (ne : is_same q child ≡ false). inr (λ e. false≢true (sym ne ∙ ap (is_same q) (sym e) ∙ same_self q))) (same_cases q child)
+  cases_child q = ⊎_elim (λ (e : q ≡ child). inl e) (λ (ne : is_same q child ≡ false). inr (λ e. false≢true (sym ne ∙ ap (is_same q) (sym e) ∙ is_same_self q q refl))) (same_cases q child)
 
   to_tree : (q : Position) → There q → There' q
   to_tree q t = ⊎_elim (λ (e : q ≡ child). subst There' (sym e) tree_child) (λ (ne : q ≡ child → ⊥). tree_else q ne ∙ t) (cases_child q)

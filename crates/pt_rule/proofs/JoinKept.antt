@@ -10,9 +10,12 @@ use mathlib.Core.Logic.{dite}
 use native.Mathlib.Decide.{ℕ_discrete, dec_le}
 use lib.ListN.{get_elem?}
 use Rattle.atomic_table.proofs.Lists.{set_else, set_here}
+use Rattle.pt_model.proofs.Positions.{adds_cases, adds_kept, adds_new, all_adds, among_append, sorted_adds}
+use Rattle.pt_view.proofs.Members.{all_append, all_map, times_append}
+use Rattle.pt_view.proofs.Pieces.{pieces_append}
 use Rattle.pt_model.specs.declared.position.Position.{Position}
 use Rattle.pt_model.specs.Layout.{Layout, end_of, input_pages, pages_of_table}
-use Rattle.pt_model.specs.Tables.{add_position, add_positions, end_of_table, is_spine, needed}
+use Rattle.pt_model.specs.Tables.{end_of_table, is_spine, needed}
 use Rattle.pt_model.specs.Words.{root_level, tag}
 use Rattle.pt_format.specs.Laws.{IsLayout}
 use Rattle.pt_view.specs.declared.view.View.{View}
@@ -28,28 +31,17 @@ use Rattle.pt_rule.specs.Tags.{Chained, IsEnd, first_or}
 use Rattle.pt_rule.specs.Linked.{is_in_tree}
 use Rattle.pt_rule.specs.Lawful.{HasBook, HasPath, IsBridged, IsOwnPiece, IsOwnTable, IsPreparedAt, Lawful, PiecesInOrder}
 use Rattle.pt_rule.specs.Kinds.{retrace}
-use Rattle.pt_rule.proofs.TotalsKept.{all_append, all_map, at_inside, each_set, times_append, total_at, total_set, total_two}
-use Rattle.pt_rule.proofs.TablesAdded.{all_added}
-use Rattle.pt_rule.proofs.PathTables.{adds_kept, adds_new, among_adds, in_order_adds}
-use Rattle.pt_rule.proofs.RootKept.{among_append}
+use Rattle.pt_rule.proofs.TotalsKept.{at_inside, each_set, total_at, total_set, total_two}
 use Rattle.pt_rule.proofs.PieceFacts.{ends_in_block}
 use Rattle.pt_rule.proofs.SpansFacts.{covers_none}
 use Rattle.pt_rule.specs.Cuts.{MayJoin, joined, seam_of}
 use Rattle.pt_rule.proofs.Regroup.{Regrouped, regrouped}
 use Rattle.pt_rule.proofs.CutLists.{covers_by, parts_cover, some_alike}
 
-pieces_append : (f : Layout) (p : Position) (i : ℕ) (xs ys : List Piece) → pieces_at f p i (xs ++ ys) ≡ pieces_at f p i xs + pieces_at f p i ys
-pieces_append f p i [] ys = omega arith
-pieces_append f p i (x ∷ xs) ys = let r = pieces_append f p i xs ys in omega arith
-
 words_append : (f : Layout) (p : Position) (i : ℕ) (xs ys : List Piece) → words_at f p i (xs ++ ys) ≡ words_at f p i xs + words_at f p i ys
 words_append f p i [] ys = omega arith
 words_append f p i (x ∷ xs) ys = let r = words_append f p i xs ys in let c : ℕ = pieces_at f p i (x ∷ []) * word_of f x in
     let a : words_at f p i ((x ∷ xs) ++ ys) ≡ c + words_at f p i (xs ++ ys) = refl in let b : words_at f p i (x ∷ xs) ≡ c + words_at f p i xs = refl in omega arith
-
-all_adds : (P : Position → Type 0) (qs ps : List Position) → AllByRecursion P ps → AllByRecursion P qs → AllByRecursion P (add_positions ps qs)
-all_adds P [] ps a b = a
-all_adds P (q ∷ qs) ps a b = all_adds P qs (add_position ps q) (all_added P ps q a b.0) b.1
 
 order_append : (f : Layout) (m : ℕ) (xs ys : List Piece) → PiecesInOrder f xs → PiecesInOrder f ys → AllByRecursion (λ x. first_of f x ≤ m) xs → AllByRecursion (λ y. m ≤ first_of f y) ys → PiecesInOrder f (xs ++ ys)
 order_append f m [] ys a b c d = b
@@ -125,7 +117,7 @@ module _ (f : Layout) (good : IsLayout f) (n l : ℕ) (words : List ℕ) (views 
       let y : places p w.tables ≤ total (has_table p) views = total_at (has_table p) views other w there in
       some_alike (total (has_table p) views') (total (has_table p) views)
       (λ some_one. dite (dec_le 1 (total (has_table p) views)) (λ le. omega arith)
-      (λ gt. let nothing : places p j.tables ≡ 0 = dite (dec_le 1 (places p j.tables)) (λ le. absurd (⊎_elim (λ (m : IsAmong v.tables p). let q : 0 < places p v.tables = m in omega arith) (λ (m : IsAmong w.tables p). let q : 0 < places p w.tables = m in omega arith) (among_adds w.tables v.tables p le))) (λ ge. omega arith) in omega arith))
+      (λ gt. let nothing : places p j.tables ≡ 0 = dite (dec_le 1 (places p j.tables)) (λ le. absurd (⊎_elim (λ (m : IsAmong v.tables p). let q : 0 < places p v.tables = m in omega arith) (λ (m : IsAmong w.tables p). let q : 0 < places p w.tables = m in omega arith) (adds_cases w.tables v.tables p le))) (λ ge. omega arith) in omega arith))
       (λ some_one. dite (dec_le 1 (places p j.tables)) (λ le. let q : places p j.tables + places p w.tables ≤ total (has_table p) (set views id j) = two in omega arith)
       (λ gt. let a : places p v.tables ≡ 0 = dite (dec_le 1 (places p v.tables)) (λ le. absurd (let q : 0 < places p j.tables = adds_kept w.tables v.tables p le in omega arith)) (λ ge. omega arith) in
       let b : places p w.tables ≡ 0 = dite (dec_le 1 (places p w.tables)) (λ le. absurd (let q : 0 < places p j.tables = adds_new w.tables v.tables p le in omega arith)) (λ ge. omega arith) in omega arith))
@@ -181,7 +173,7 @@ module _ (f : Layout) (good : IsLayout f) (n l : ℕ) (words : List ℕ) (views 
     tables = all_adds (IsOwnTable f j) w.tables v.tables
         (all_map (IsOwnTable f v) (IsOwnTable f j) v.tables (λ p o. own_table v p refl v_low v_high o) book.tables)
         (all_map (IsOwnTable f w) (IsOwnTable f j) w.tables (λ p o. own_table w p levels_are w_low w_high o) book'.tables);
-    in_order = in_order_adds w.tables v.tables book.in_order;
+    in_order = sorted_adds w.tables v.tables book.in_order;
     pieces_in_order = order_append f (v.first + v.count) v.pieces w.pieces book.pieces_in_order book'.pieces_in_order
         (all_map (IsOwnPiece f v) (λ x. first_of f x ≤ v.first + v.count) v.pieces
         (λ x o. let span = and_parts (nat_le v.first x.block.first) (nat_le (end_of x.block) (v.first + v.count)) o.in_span in

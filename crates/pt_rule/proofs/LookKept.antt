@@ -6,6 +6,9 @@ use Rattle.std.specs.List.{AllByRecursion}
 use Rattle.std.proofs.lemmas.Bool.{and_parts, and_from, lt-ltb, ltb-true, false≢true, false_from_ne_true}
 use mathlib.Core.Option.{some}
 use lib.ListN.{get_elem?}
+use Rattle.pt_model.proofs.Positions.{among_cases}
+use Rattle.pt_view.proofs.Members.{all_append, all_map}
+use Rattle.pt_view.proofs.Paths.{lowest_has}
 use Rattle.pt_model.specs.declared.position.Position.{Position}
 use Rattle.pt_model.specs.Layout.{Layout, Found, table}
 use Rattle.pt_model.specs.Tables.{child_at, end_of_table, spine_position, starting_top}
@@ -17,14 +20,14 @@ use Rattle.pt_view.specs.declared.view.View.{View}
 use Rattle.pt_view.specs.declared.view.Node.{Node}
 use Rattle.pt_view.specs.declared.view.Absence.{Absence}
 use Rattle.pt_view.specs.declared.view.Absence.TheVariants.{Zero}
-use Rattle.pt_model.specs.Sets.{IsAmong}
+use Rattle.pt_model.specs.Sets.{IsAmong, IsSorted}
 use Rattle.pt_view.specs.Pieces.{IsOneOf}
 use Rattle.pt_view.specs.Calls.{entry_first, entry_end, is_under, lowest, meets_span, pieces_at, IsEntryAt, IsVacant}
 use Rattle.pt_rule.specs.Totals.{total, has_piece}
 use Rattle.pt_rule.specs.Linked.{IsLinkedAt, is_in_tree}
-use Rattle.pt_rule.specs.Lawful.{Lawful, HasPath, InOrder, IsOnPath, IsChild, IsOwnPiece, IsOwnTable, BeginsOnSpine, Descends, has_child}
+use Rattle.pt_rule.specs.Lawful.{Lawful, HasPath, IsOnPath, IsChild, IsOwnPiece, IsOwnTable, BeginsOnSpine, Descends, has_child}
 use Rattle.pt_rule.specs.Kinds.{Keeps, EntryTells, zero as tells_zero, own, pointer, look, deeper, first_page, level_at, met, met_word, met_zero}
-use Rattle.pt_rule.proofs.TotalsKept.{all_append, all_map, among_cases, total_at}
+use Rattle.pt_rule.proofs.TotalsKept.{total_at}
 use Rattle.pt_rule.proofs.PositionFacts.{end_of_child}
 use Rattle.pt_rule.proofs.PieceFacts.{word_some}
 use Rattle.pt_rule.proofs.TreeFacts.{IsThere, IsEntry, an_empty, a_piece, a_child, entry_is, own_view, is_position, frame_back, is_address, linked_there, child_there, spine_there, table_there, step_of_piece, whole_tree}
@@ -38,11 +41,6 @@ some_is x y e = ap (λ (o : Option Node). from o) e
     from : Option Node → Node
     from None = x
     from (Some z) = z
-
-pub lowest_has : (P : Node → Type 0) (xs : List Node) (x : Node) → lowest xs ≡ Some x → AllByRecursion P xs → P x
-lowest_has P [] x e all = absurd (let w : ⊥ = cc in w)
-lowest_has P (y ∷ []) x e all = subst P (some_is y x e) all.0
-lowest_has P (y ∷ z ∷ zs) x e all = lowest_has P (z ∷ zs) x e all.1
 
 descends_more : (f : Layout) (xs : List Node) (x y : Node) → lowest xs ≡ Some x → Descends f xs → IsChild f x.position y.position → Descends f (xs ++ y ∷ [])
 descends_more f [] x y e h c = tt
@@ -103,7 +101,7 @@ module _ (f : Layout) (n l : ℕ) (good : IsLayout f) where
   pub enters : (words : List ℕ) (views : List View) (id : ℕ) (v : View) (r : Lawful f n l words views) → get_elem? views id ≡ some v → 0 < v.count →
       (frame number : ℕ) (p : Position) → StandsAt f n words views v frame number p → 0 < p.level → (h : ℕ) → IsLinkedAt n words views h (child_at f p number) →
       (tables : List Position) → ((q : Position) → IsAmong v.tables q → IsAmong tables q) → ((q : Position) → IsAmong tables q → IsTrue (is_in_tree l words views q)) →
-      AllByRecursion (IsOwnTable f v) tables → InOrder tables → Finds f n l words views v (entered f v h number p tables)
+      AllByRecursion (IsOwnTable f v) tables → IsSorted tables → Finds f n l words views v (entered f v h number p tables)
   enters words views id v r at live frame number p s high h child tables kept found all order =
       let w : View = entered f v h number p tables in
       let meets = child_meets words views r v frame number p s high in

@@ -13,7 +13,9 @@ use Rattle.pt_rule.specs.Tags.{held, Chained, first_or, held_word, is_held}
 use Rattle.pt_rule.specs.Lawful.{Lawful}
 use Rattle.pt_rule.specs.Kinds.{Keeps, mark, look_tag, follows}
 use Rattle.pt_model.proofs.Places.{tag_same, tag_else}
-use Rattle.pt_rule.proofs.TotalsKept.{each_set, times_append, times_here, in_cases, bit_true}
+use Rattle.pt_rule.proofs.TotalsKept.{each_set}
+use Rattle.pt_model.proofs.Positions.{bit_true}
+use Rattle.pt_view.proofs.Members.{in_cases, times_append, times_here}
 use Rattle.pt_rule.proofs.PartsKept.{SameLinks, bridged_to, prepared_moved, prepares_here, chained_else, busy_set}
 use Rattle.pt_rule.proofs.TagFacts.{IsHeldBy, held_by, held_is, held_unplaced, held_nonzero, tag_still, unplaced_unlinked}
 use Rattle.pt_rule.proofs.TagKept.{tag_links, tag_kept}

@@ -1,5 +1,5 @@
 -- What a view has met may be anything that is true.
-use Rattle.std.proofs.Common.{refl, set}
+use Rattle.std.proofs.Common.{refl}
 use Rattle.pt_view.specs.declared.view.View.{View}
 use Rattle.pt_rule.specs.Laws.{ViewsNote}
 use Rattle.pt_rule.proofs.NotesKept.{notes, path_front, path_noted}

@@ -23,7 +23,8 @@ use Rattle.pt_rule.specs.Tags.{IsEnd, IsTag, held, placed, Chained, held_word, i
 use Rattle.pt_rule.specs.Linked.{IsLinked, is_in_tree}
 use Rattle.pt_rule.specs.Lawful.{Lawful, HasBook, HasPath, IsPreparedAt, IsBridged}
 use Rattle.pt_rule.specs.Opening.{counting, opening_view, IsNew}
-use Rattle.pt_rule.proofs.TotalsKept.{times_here, times_else, bit_true, bit_false}
+use Rattle.pt_model.proofs.Positions.{bit_false, bit_true}
+use Rattle.pt_view.proofs.Members.{times_else, times_here}
 use Rattle.pt_rule.proofs.TagFacts.{held_is, held_unplaced, placed_is, placed_unheld}
 use Rattle.pt_rule.proofs.TreeFacts.{placed_back}
 use Rattle.pt_rule.proofs.SpansFacts.{some_page}

@@ -7,7 +7,7 @@ use Rattle.pt_model.specs.Layout.{Layout}
 use Rattle.pt_view.specs.declared.view.Piece.{Piece}
 use Rattle.pt_view.specs.Pieces.{add_piece, first_of}
 use Rattle.pt_rule.specs.Lawful.{PiecesInOrder}
-use Rattle.pt_rule.proofs.TotalsKept.{all_map}
+use Rattle.pt_view.proofs.Members.{all_map}
 
 -- what holds of each piece and of one more holds where this one is put among them
 pub all_with_piece : (f : Layout) (P : Piece → Type 0) (ys : List Piece) (x : Piece) → AllByRecursion P ys → P x → AllByRecursion P (add_piece f ys x)

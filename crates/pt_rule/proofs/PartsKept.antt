@@ -16,7 +16,7 @@ use Rattle.pt_view.specs.declared.view.View.{View}
 use Rattle.pt_view.specs.declared.view.Node.{Node}
 use Rattle.pt_view.specs.declared.view.Piece.{Piece}
 use Rattle.pt_view.specs.declared.view.Prepared.{Prepared}
-use Rattle.pt_model.specs.Sets.{one_if, IsAmong}
+use Rattle.pt_model.specs.Sets.{one_if, IsAmong, IsSorted}
 use Rattle.pt_view.specs.Lists.{times, IsIn}
 use Rattle.pt_view.specs.Pieces.{table_of}
 use Rattle.pt_view.specs.Calls.{meets_span, pieces_at}
@@ -24,9 +24,11 @@ use Rattle.pt_view.specs.Views.{spent, SameRange, SameBook}
 use Rattle.pt_rule.specs.Totals.{total, covers, holds, prepares, has_table, has_piece, has_word, has_bridge, is_prepared, bridge_in, words_at}
 use Rattle.pt_rule.specs.Tags.{IsEnd, IsTag, Chained, is_held, is_placed}
 use Rattle.pt_rule.specs.Linked.{IsLinked, IsLinkedAt, is_in_tree}
-use Rattle.pt_rule.specs.Lawful.{SpansPart, FramesPart, PositionsPart, RootPart, ParentsPart, EntriesPart, BooksPart, PathsPart, PursesPart, SizesPart, BusyPart, KnownPart, IsPreparedAt, IsBridged, HasBridge, HasBook, IsOwnPiece, IsOwnTable, HasPath, IsOnPath, InOrder, BeginsOnSpine, Descends, slot_of, PiecesInOrder}
+use Rattle.pt_rule.specs.Lawful.{SpansPart, FramesPart, PositionsPart, RootPart, ParentsPart, EntriesPart, BooksPart, PathsPart, PursesPart, SizesPart, BusyPart, KnownPart, IsPreparedAt, IsBridged, HasBridge, HasBook, IsOwnPiece, IsOwnTable, HasPath, IsOnPath, BeginsOnSpine, Descends, slot_of, PiecesInOrder}
 use Rattle.pt_model.proofs.Places.{tag_same, tag_else, entry_after_tag}
-use Rattle.pt_rule.proofs.TotalsKept.{total_set, total_at, total_same, total_only, at_inside, each_set, bit_true, in_here, in_more, all_map}
+use Rattle.pt_rule.proofs.TotalsKept.{total_set, total_at, total_same, total_only, at_inside, each_set}
+use Rattle.pt_model.proofs.Positions.{bit_true}
+use Rattle.pt_view.proofs.Members.{all_map, in_here, in_more}
 
 -- The linked frames and the positions of the tree.
 
@@ -280,7 +282,7 @@ pub book_same : (f : Layout) (v w : View) → SameRange v w → SameBook v w →
 book_same f v w range book h = record {
   pieces = subst (AllByRecursion (IsOwnPiece f w)) (sym book.pieces) (all_map (IsOwnPiece f v) (IsOwnPiece f w) v.pieces (λ x a. own_piece f x v w range book a) h.pieces);
   tables = subst (AllByRecursion (IsOwnTable f w)) (sym book.tables) (all_map (IsOwnTable f v) (IsOwnTable f w) v.tables (λ p a. own_table f p v w range a) h.tables);
-  in_order = subst InOrder (sym book.tables) h.in_order;
+  in_order = subst IsSorted (sym book.tables) h.in_order;
   pieces_in_order = subst (PiecesInOrder f) (sym book.pieces) h.pieces_in_order;
   top_low = let t = h.top_low in subst (λ (s : ℕ × ℕ). starting_top s.0 ≤ s.1) (λ i. (sym range.levels i, sym book.top i)) t;
   top_high = subst (λ (t : ℕ). t < f.levels) (sym book.top) h.top_high;

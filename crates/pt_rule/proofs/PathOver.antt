@@ -16,8 +16,9 @@ use Rattle.pt_model.specs.Sets.{IsAmong}
 use Rattle.pt_view.specs.Pieces.{first_of, level_of, words_of}
 use Rattle.pt_view.specs.Calls.{lowest}
 use Rattle.pt_rule.specs.Lawful.{Descends, IsChild}
-use Rattle.pt_rule.proofs.TotalsKept.{among_here, among_more}
-use Rattle.pt_rule.proofs.PositionFacts.{quotient, parent_of_child, whole}
+use Rattle.pt_model.proofs.Positions.{among_here, among_more}
+use Rattle.pt_model.proofs.Quotients.{quotient, whole}
+use Rattle.pt_rule.proofs.PositionFacts.{parent_of_child}
 
 -- The position over a page, one level up.
 pub over_over : (f : Layout) (page level : ℕ) → parent_of f (position_over f page level) ≡ position_over f page (level + 1)

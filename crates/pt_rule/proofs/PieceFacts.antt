@@ -1,12 +1,12 @@
 -- Pieces: where a piece stands, the pages under it, and the pieces and words at an entry.
-use Rattle.std.proofs.Common.{◌≡◌, ◌≢◌, ℕ, ◌+◌, ◌-◌, ◌*◌, ◌/◌, ◌%◌, ◌^◌, ◌<◌, ◌≤◌, List, [], ◌∷◌, refl, ap, sym, ◌∙◌, arith, true}
+use Rattle.std.proofs.Common.{◌≡◌, ◌≢◌, ℕ, ◌+◌, ◌-◌, ◌*◌, ◌/◌, ◌^◌, ◌<◌, ◌≤◌, List, [], ◌∷◌, refl, ap, sym, ◌∙◌, arith}
 use Rattle.std.specs.Prelude.{◌&&◌, ◌==◌}
 use Rattle.std.specs.List.{AllByRecursion}
-use Rattle.std.proofs.lemmas.Bool.{and_parts, and_from, eqb-true, eq-eqb}
-use Rattle.std.proofs.lemmas.Nat.{shr_split, shl-shr, pow-add, pow_pos, mod_below, mod-mul-add, mul-le}
-use Rattle.std.proofs.Math.Nat.{div-mul-le_self}
+use Rattle.std.proofs.lemmas.Nat.{shr_split, shl-shr, pow-add, pow_pos, mul-le}
 use mathlib.Core.Logic.{dite}
 use native.Mathlib.Decide.{dec_le}
+use Rattle.pt_model.proofs.Positions.{bit_le}
+use Rattle.pt_model.proofs.Quotients.{base_lemma, quotient, size_split, table_is_entries, whole}
 use Rattle.pt_model.specs.declared.position.Position.{Position}
 use Rattle.pt_model.specs.Layout.{Layout, end_of, pages_of_entry, pages_of_table}
 use Rattle.pt_model.specs.Tables.{is_same}
@@ -18,21 +18,8 @@ use Rattle.pt_view.specs.Pieces.{first_of, table_of, number_of, level_of, word_o
 use Rattle.pt_view.specs.Calls.{entry_first, pieces_at}
 use Rattle.pt_rule.specs.Totals.{words_at}
 use Rattle.pt_rule.specs.Lawful.{IsOwnPiece}
-use Rattle.pt_rule.proofs.TotalsKept.{same_tells, same_self, bit_le, bit_true, true_bit}
-use Rattle.pt_rule.proofs.PositionFacts.{base_lemma, quotient, table_is_entries, whole}
 
 -- Where a piece stands.
-
-pub number_below : (f : Layout) (x : Piece) → number_of f x < 2 ^ f.index
-number_below f x = mod_below (first_of f x / pages_of_entry f (level_of f x)) (2 ^ f.index) (pow_pos f.index)
-
-pub table_aligned : (f : Layout) (x : Piece) → (table_of f x).base % pages_of_table f (table_of f x).level ≡ 0
-table_aligned f x =
-    let t : ℕ = pages_of_table f (level_of f x) in let b : ℕ = first_of f x / t in
-    (let e : b * t ≡ b * t + 0 = omega arith in ap (λ y. y % t) e) ∙ mod-mul-add b t 0 (pow_pos (f.index * (level_of f x + 1)))
-
-size_split : (index log2 : ℕ) → 0 < index → log2 ≡ log2 - index * (log2 / index) + index * (log2 / index)
-size_split index log2 positive = let h = div-mul-le_self log2 index in let c : log2 / index * index ≡ index * (log2 / index) = omega arith in omega (arith, h, c)
 
 -- The pages under a piece that a view may have.
 module _ (f : Layout) (good : IsLayout f) (v : View) (x : Piece) (own : IsOwnPiece f v x) where
@@ -85,18 +72,6 @@ module _ (f : Layout) (good : IsLayout f) (v : View) (x : Piece) (own : IsOwnPie
   word_some d = d.leaf_some (level_of f x) x.block.log2 x.block.out x.part x.block.prot may_be_leaf
 
 -- The pieces and words at an entry.
-
-pub one_here : (f : Layout) (p : Position) (i : ℕ) (x : Piece) → pieces_at f p i (x ∷ []) ≡ 1 → (p ≡ table_of f x) × (number_of f x ≡ i)
-one_here f p i x e =
-    let b : (is_same p (table_of f x) && (number_of f x == i)) ≡ true = true_bit _ (omega arith) in
-    let h : (is_same p (table_of f x) ≡ true) × ((number_of f x == i) ≡ true) = and_parts (is_same p (table_of f x)) _ b in
-    (same_tells p (table_of f x) h.0, eqb-true (number_of f x) i h.1)
-
-pub here_one : (f : Layout) (x : Piece) → pieces_at f (table_of f x) (number_of f x) (x ∷ []) ≡ 1
-here_one f x =
-    let b : (is_same (table_of f x) (table_of f x) && (number_of f x == number_of f x)) ≡ true =
-    and_from (is_same (table_of f x) (table_of f x)) _ (same_self (table_of f x)) (eq-eqb (number_of f x) (number_of f x) refl) in
-    let h = bit_true _ b in omega arith
 
 -- the one piece at an entry
 pub record IsOneAt (f : Layout) (P : Piece → Type 0) (p : Position) (i : ℕ) (xs : List Piece) : Type 0 where

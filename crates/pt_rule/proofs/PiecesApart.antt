@@ -20,9 +20,11 @@ use Rattle.pt_view.specs.Calls.{entry_first, entry_end, is_under, pieces_at}
 use Rattle.pt_rule.specs.Totals.{has_piece}
 use Rattle.pt_rule.specs.Linked.{is_in_tree}
 use Rattle.pt_rule.specs.Lawful.{Lawful, IsOwnPiece, PiecesInOrder, has_child}
-use Rattle.pt_rule.proofs.TotalsKept.{total_at, all_map}
-use Rattle.pt_rule.proofs.PositionFacts.{one_multiple}
-use Rattle.pt_rule.proofs.PieceFacts.{first_whole, first_is_entry's, here_one}
+use Rattle.pt_rule.proofs.TotalsKept.{total_at}
+use Rattle.pt_model.proofs.Quotients.{one_multiple}
+use Rattle.pt_view.proofs.Members.{all_map}
+use Rattle.pt_view.proofs.Pieces.{here_one}
+use Rattle.pt_rule.proofs.PieceFacts.{first_whole, first_is_entry's}
 use Rattle.pt_rule.proofs.TreeFacts.{all_both, all_one_of, child_there}
 
 -- Over plain numbers: a run of e pages from b * e, and one of c * d * e from a * (c * d * e), meet. Then the

@@ -14,7 +14,9 @@ use Rattle.pt_rule.specs.Totals.{total, prepares, bridge_in, is_prepared}
 use Rattle.pt_rule.specs.Tags.{placed, Chained, is_held, is_placed}
 use Rattle.pt_rule.specs.Kinds.{Keeps, place, rest_of}
 use Rattle.pt_model.proofs.Places.{tag_same}
-use Rattle.pt_rule.proofs.TotalsKept.{total_at, at_inside, each_set, times_here, times_else, in_here, bit_true, bit_false}
+use Rattle.pt_rule.proofs.TotalsKept.{total_at, at_inside, each_set}
+use Rattle.pt_model.proofs.Positions.{bit_false, bit_true}
+use Rattle.pt_view.proofs.Members.{in_here, times_else, times_here}
 use Rattle.pt_rule.proofs.PartsKept.{chained_else, busy_set}
 use Rattle.pt_rule.proofs.TagFacts.{IsHeldBy, held_by, held_unplaced, placed_is, placed_unheld, placed_some, tag_still, unplaced_unlinked, prepared_unlinked, no_bridge}
 use Rattle.pt_rule.proofs.TagKept.{tag_kept}

@@ -1,34 +1,19 @@
 -- Positions: a child's parent and its entry there, what lies under an entry, and the spans of both.
 use Rattle.std.proofs.Common.{◌≡◌, ℕ, ◌+◌, ◌-◌, ◌*◌, ◌/◌, ◌%◌, ◌^◌, ◌<◌, ◌≤◌, ap, sym, ◌∙◌, arith}
-use Rattle.std.proofs.lemmas.Nat.{shr-shr, shr_split, shl-shr, pow-add, pow_pos, mod_below, div-mul-add, mod-mul-add, mul-le, le-div}
+use Rattle.std.proofs.lemmas.Nat.{shr_split, shl-shr, pow-add, pow_pos, mod_below, div-mul-add, mod-mul-add, mul-le, le-div}
 use Rattle.std.proofs.Math.Pow.{pow-lt}
 use Rattle.std.proofs.Math.Nat.{div-mul-le_self}
 use mathlib.Core.Logic.{dite}
-use native.Mathlib.Decide.{ℕ_discrete, dec_le}
+use native.Mathlib.Decide.{dec_le}
+use Rattle.pt_model.proofs.Positions.{same_position}
+use Rattle.pt_model.proofs.Quotients.{base_lemma, entry_is_table, entry_some, one_multiple, quotient, table_is_entries, whole}
 use Rattle.pt_model.specs.declared.position.Position.{Position}
 use Rattle.pt_model.specs.Layout.{Layout, pages_of_entry, pages_of_table}
 use Rattle.pt_model.specs.Tables.{child_at, end_of_table, parent_of}
 use Rattle.pt_view.specs.Calls.{entry_first, entry_end}
 use Rattle.pt_rule.specs.Lawful.{slot_of}
 
-pub same_position : (p q : Position) → p.level ≡ q.level → p.base ≡ q.base → p ≡ q
-same_position p q e h = λ i. record { level = e i; base = h i }
-
 -- The pages of a table are those of an entry one level up, and 2 ^ index times those of its own entries.
-
-pub entry_is_table : (f : Layout) (level : ℕ) → 0 < level → pages_of_entry f level ≡ pages_of_table f (level - 1)
-entry_is_table f level high = let e : level ≡ level - 1 + 1 = omega arith in ap (λ k. 2 ^ (f.index * k)) e
-
-pub table_is_entries : (f : Layout) (level : ℕ) → pages_of_table f level ≡ pages_of_entry f level * 2 ^ f.index
-table_is_entries f level =
-    let e : f.index * (level + 1) ≡ f.index * level + f.index = omega arith in ap (λ k. 2 ^ k) e ∙ pow-add 2 (f.index * level) f.index
-
-pub entry_some : (f : Layout) (level : ℕ) → 0 < pages_of_entry f level
-entry_some f level = pow_pos (f.index * level)
-
--- a multiple of a table's pages is its quotient times them
-pub whole : (n k : ℕ) → n % 2 ^ k ≡ 0 → n ≡ n / 2 ^ k * 2 ^ k
-whole n k e = let s = shr_split n k in omega arith
 
 -- The same over plain numbers: a table begins at `b` times `t` entries of `e` pages, and `i` is one of these.
 
@@ -42,12 +27,6 @@ child_quotient f p i aligned =
     let b : ℕ = p.base / 2 ^ k in
     ap (λ x. x + i * pages_of_entry f p.level) (whole p.base k aligned ∙ ap (λ x. b * x) (table_is_entries f p.level))
     ∙ child_base b (pages_of_entry f p.level) (2 ^ f.index) i
-
--- the quotients by the pages of an entry, one level up
-pub quotient : (f : Layout) (here level : ℕ) → here / pages_of_entry f level / 2 ^ f.index ≡ here / pages_of_table f level
-quotient f here level =
-    let e : f.index * level + f.index ≡ f.index * (level + 1) = omega arith in
-    shr-shr here (f.index * level) f.index ∙ ap (λ k. here / 2 ^ k) e
 
 -- An entry of a table, and the child there.
 module _ (f : Layout) (p : Position) (i : ℕ) (high : 0 < p.level) (below : i < 2 ^ f.index) (aligned : p.base % pages_of_table f p.level ≡ 0) where
@@ -82,13 +61,6 @@ module _ (f : Layout) (p : Position) (i : ℕ) (high : 0 < p.level) (below : i <
   pub end_of_child : end_of_table f (child_at f p i) ≡ entry_end f p i
   end_of_child = ap (λ x. entry_first f p i + x) (sym (entry_is_table f p.level high))
 
--- what lies at whole multiples of some pages, from one of them and before the next, is that one
-pub one_multiple : (m n e : ℕ) → m * e ≤ n * e → n * e < m * e + e → n ≡ m
-one_multiple m n e low high = dite (ℕ_discrete n m) (λ s. s) (λ ne. absurd (dite (dec_le n m)
-    (λ le. let h = mul-le (n + 1) e m e (omega arith) (omega arith) in
-    dite (dec_le e 0) (λ z. omega (arith, high, low)) (λ pos. omega arith))
-    (λ gt. let h = mul-le (m + 1) e n e (omega arith) (omega arith) in omega arith)))
-
 -- A table at a position that lies under an entry of another is the child there, or its parent lies there too.
 module _ (f : Layout) (p : Position) (i : ℕ) (aligned : p.base % pages_of_table f p.level ≡ 0) (q : Position) (q_aligned : q.base % pages_of_table f q.level ≡ 0) (low : entry_first f p i ≤ q.base) (up : q.base < entry_end f p i) where
   pub is_child : q.level + 1 ≡ p.level → q ≡ child_at f p i
@@ -121,12 +93,6 @@ module _ (f : Layout) (p : Position) (i : ℕ) (aligned : p.base % pages_of_tabl
   parent_up = let h = div-mul-le_self q.base (pages_of_table f (q.level + 1)) in omega (arith, h, up)
 
 -- The parent of an aligned position.
-
-pub base_lemma : (above whole pages many part below : ℕ) → whole ≡ pages * many → above * many + part ≡ below →
-    above * whole + part * pages ≡ below * pages
-base_lemma above whole pages many part below e h =
-    let regrouped : above * (pages * many) + part * pages ≡ (above * many + part) * pages = omega arith in
-    ap (λ x. above * x + part * pages) e ∙ regrouped ∙ ap (λ x. x * pages) h
 
 module _ (f : Layout) (q : Position) (aligned : q.base % pages_of_table f q.level ≡ 0) where
   pub slot_below : slot_of f q < 2 ^ f.index

@@ -17,7 +17,8 @@ use Rattle.pt_rule.specs.Lawful.{Lawful}
 use Rattle.pt_rule.specs.Kinds.{Keeps, RaiseTells, raise, raised, over_top, with_spine, put}
 use Rattle.pt_rule.proofs.TreeFacts.{spine_there}
 use Rattle.pt_rule.proofs.NotesKept.{notes_at}
-use Rattle.pt_rule.proofs.RootKept.{among_append, root_tells, spine_among, spine_is}
+use Rattle.pt_rule.proofs.RootKept.{root_tells, spine_is}
+use Rattle.pt_model.proofs.Positions.{among_append, among_levels}
 use Rattle.pt_rule.proofs.RaiseWon.{higher, legal, raise_won}
 
 -- What a raise puts, and makes of the view, where it found the old top's word and where it found another.
@@ -65,7 +66,7 @@ module _ (f : Layout) (n l : ℕ) (good : IsLayout f) where
         known = λ p a. ⊎_elim
             (λ (new : IsAmong (map spine_position (levels_between (starting_top v.levels) (root_level words))) p).
             let t : (level : ℕ) × (starting_top v.levels ≤ level) × (level < starting_top v.levels + (root_level words + 1 - starting_top v.levels)) × (p ≡ spine_position level) =
-            spine_among (root_level words + 1 - starting_top v.levels) (starting_top v.levels) p new in
+            among_levels spine_position (root_level words + 1 - starting_top v.levels) (starting_top v.levels) p new in
             let from = t.1 in let to = t.2 in (
               subst (λ (q : Position). IsTrue (is_in_tree l words views q)) (sym t.3)
                   (spine_there f n l words views good r t.0 (subst (λ (k : ℕ). starting_top k ≤ t.0) (r.sizes.live id v at live).1 from) (omega arith)),

@@ -28,13 +28,14 @@ use Rattle.pt_rule.specs.Lawful.{Lawful, BooksPart, EntriesPart, FramesPart, Has
 use Rattle.pt_rule.specs.Kinds.{over_top, with_spine}
 use Rattle.pt_model.proofs.Tops.{table_mono}
 use Rattle.pt_model.proofs.Places.{entry_after_root, length_kept, root_same, tag_after_root}
-use Rattle.pt_rule.proofs.TotalsKept.{all_map, at_inside, bit_false, bit_le, each_set, same_cases, same_self, total_set, total_same}
+use Rattle.pt_rule.proofs.TotalsKept.{at_inside, each_set, total_set, total_same}
+use Rattle.pt_model.proofs.Positions.{among_append, among_levels, bit_false, bit_le, is_same_self, same_cases, same_position}
+use Rattle.pt_view.proofs.Members.{all_map}
 use Rattle.pt_rule.proofs.PartsKept.{prepared_moved, prepared_within, spans_set, books_set, busy_set, known_set, purses_same, sizes_same}
-use Rattle.pt_rule.proofs.PositionFacts.{same_position}
 use Rattle.pt_rule.proofs.TagFacts.{IsPreparedBy, placed_is, prepared_by, prepared_unlinked}
 use Rattle.pt_rule.proofs.TreeFacts.{level_low, linked_there, no_words_of, one_frame, piece_home, placed_back, prepared_tag}
 use Rattle.pt_rule.proofs.FindsKept.{piece_kept, table_kept}
-use Rattle.pt_rule.proofs.RootKept.{among_append, spine_among, spine_is}
+use Rattle.pt_rule.proofs.RootKept.{spine_is}
 use Rattle.pt_rule.proofs.BridgeKept.{bridge_here, bridge_low, bridge_none, bridge_total}
 
 -- the parent of a spine position is the next one, at its entry 0
@@ -308,7 +309,7 @@ module _ (f : Layout) (n l : ℕ) (good : IsLayout f) (words : List ℕ) (views 
     -- the old root is now a child
     old_place : (q : Position) → q ≢ spine_position (root_level words') → (q ≡ spine_position level) ⊎ (q ≢ spine_position (root_level words))
     old_place q ne = ⊎_elim (λ (e : q ≡ spine_position level). inl e)
-        (λ (other : is_same q (spine_position level) ≡ false). inr (λ e. false≢true (sym other ∙ ap (is_same q) (ap spine_position (sym was_level) ∙ sym e) ∙ same_self q)))
+        (λ (other : is_same q (spine_position level) ≡ false). inr (λ e. false≢true (sym other ∙ ap (is_same q) (ap spine_position (sym was_level) ∙ sym e) ∙ is_same_self q q refl)))
         (same_cases q (spine_position level))
 
     parents_won : ParentsPart f n l words' views'
@@ -433,7 +434,7 @@ module _ (f : Layout) (n l : ℕ) (good : IsLayout f) (words : List ℕ) (views 
     spine_known p a = ⊎_elim
         (λ (new : IsAmong (map spine_position (levels_between (starting_top v.levels) (level + 1))) p).
         let t : (k : ℕ) × (starting_top v.levels ≤ k) × (k < starting_top v.levels + (level + 1 + 1 - starting_top v.levels)) × (p ≡ spine_position k) =
-        spine_among (level + 1 + 1 - starting_top v.levels) (starting_top v.levels) p new in
+        among_levels spine_position (level + 1 + 1 - starting_top v.levels) (starting_top v.levels) p new in
         let from = t.1 in let to = t.2 in let start = start_here in (
           subst There' (sym t.3)
               (let now = level_now in or_left (is_spine l (spine_position t.0) && nat_le t.0 (root_level words')) _

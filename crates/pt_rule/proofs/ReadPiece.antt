@@ -15,7 +15,7 @@ use Rattle.pt_view.specs.Pieces.{first_of, level_of, word_of, words_of}
 use Rattle.pt_view.specs.Calls.{entry_first, pieces_at}
 use Rattle.pt_rule.specs.Lawful.{IsOwnPiece}
 use Rattle.pt_rule.specs.WholeView.{has_this_word, piece_found, piece_in, piece_of_size}
-use Rattle.pt_rule.proofs.PositionFacts.{whole}
+use Rattle.pt_model.proofs.Quotients.{whole}
 use Rattle.pt_rule.proofs.PieceFacts.{ends_in_block, may_be_leaf}
 use Rattle.pt_rule.proofs.TreeFacts.{entry_of_piece, level_of_piece, step_of_piece}
 

@@ -8,6 +8,9 @@ use mathlib.Core.Option.{some, some-injective, some-ne-none}
 use mathlib.Core.Logic.{dite}
 use native.Mathlib.Decide.{ℕ_discrete}
 use lib.ListN.{get_elem?}
+use Rattle.pt_model.proofs.Positions.{same_list}
+use Rattle.pt_view.proofs.Members.{all_have, all_map, one_has}
+use Rattle.pt_view.proofs.Pieces.{here_one, number_below, one_here}
 use Rattle.pt_model.specs.declared.position.Position.{Position}
 use Rattle.pt_model.specs.Layout.{Layout}
 use Rattle.pt_model.specs.Tables.{IsPosition, child_at}
@@ -22,10 +25,8 @@ use Rattle.pt_rule.specs.Totals.{total, has_piece}
 use Rattle.pt_rule.specs.Linked.{IsLinkedAt, is_in_tree}
 use Rattle.pt_rule.specs.Lawful.{Lawful, IsOwnPiece}
 use Rattle.pt_rule.specs.WholeView.{is_linked_in, piece_in, pieces_in, pieces_with_frame, prepared_frame, with_piece}
-use Rattle.pt_rule.proofs.TotalsKept.{all_map}
-use Rattle.pt_rule.proofs.PieceFacts.{here_one, number_below, one_here}
 use Rattle.pt_rule.proofs.TreeFacts.{an_empty, a_piece, a_child, entry_is, entry_of_piece, is_address, is_position, linked_there, one_frame}
-use Rattle.pt_rule.proofs.Ordered.{all_with_piece, either_has, same_list}
+use Rattle.pt_rule.proofs.Ordered.{all_with_piece, either_has}
 use Rattle.pt_rule.proofs.PiecesApart.{Spaced, last_of, spaced, stands}
 use Rattle.pt_rule.proofs.ReadPiece.{piece_read, pointer_read, zero_read}
 use Rattle.pt_rule.proofs.ReadTables.{is_linked, reads_linked}
@@ -36,15 +37,6 @@ use Rattle.pt_rule.proofs.ReadTables.{is_linked, reads_linked}
 abbrev Rises : Layout → List Piece → Type 0
 Rises f [] = Unit {0}
 Rises f (x ∷ xs) = AllByRecursion (λ y. first_of f x < first_of f y) xs × Rises f xs
-
-one_has : (P : Piece → Type 0) (xs : List Piece) (x : Piece) → AllByRecursion P xs → IsOneOf xs x → P x
-one_has P [] x all h = absurd h
-one_has P (y ∷ ys) x all (inl e) = subst P e all.0
-one_has P (y ∷ ys) x all (inr h) = one_has P ys x all.1 h
-
-all_have : (P : Piece → Type 0) (xs : List Piece) → ((x : Piece) → IsOneOf xs x → P x) → AllByRecursion P xs
-all_have P [] h = tt
-all_have P (x ∷ xs) h = (h x (inl refl), all_have P xs (λ y m. h y (inr m)))
 
 spaced_rises : (f : Layout) (xs : List Piece) → Spaced f xs → Rises f xs
 spaced_rises f [] s = tt

@@ -1,6 +1,6 @@
 -- The tables of a view of the whole space are read from the tags, its top from the root.
 use Rattle.std.proofs.Common.{◌≡◌, ℕ, zero, suc, Bool, true, false, ◌<◌, List, [], ◌∷◌, sym, refl, ap, ◌∙◌, subst, arith, ⊎_elim}
-use Rattle.std.specs.Prelude.{IsTrue, nat_lt, nat_le, ◌&&◌, not, Option, None, Some}
+use Rattle.std.specs.Prelude.{nat_lt, nat_le, ◌&&◌, not, Option, None, Some}
 use Rattle.std.proofs.lemmas.Bool.{and_parts, and_from, or_cases, false≢true, ltb-true}
 use mathlib.Core.Option.{some, some-injective, some-ne-none}
 use mathlib.Core.Logic.{dite}
@@ -8,35 +8,28 @@ use native.Mathlib.Decide.{ℕ_discrete}
 use lib.ListN.{get_elem?}
 use Rattle.pt_model.specs.declared.position.Position.{Position}
 use Rattle.pt_model.specs.Layout.{Layout}
-use Rattle.pt_model.specs.Tables.{add_position, is_before, is_spine}
+use Rattle.pt_model.specs.Tables.{add_position, is_spine}
 use Rattle.pt_model.specs.Words.{tag, placed_at, root_level}
 use Rattle.pt_format.specs.Laws.{IsLayout}
 use Rattle.pt_view.specs.declared.view.View.{View}
 use Rattle.pt_view.specs.declared.view.Prepared.{Prepared}
-use Rattle.pt_model.specs.Sets.{IsAmong}
+use Rattle.pt_model.specs.Sets.{IsAmong, IsSorted}
 use Rattle.pt_rule.specs.Totals.{total, has_table, is_prepared}
 use Rattle.pt_rule.specs.Tags.{is_placed}
 use Rattle.pt_rule.specs.Linked.{IsLinked, IsLinkedAt, is_in_tree}
-use Rattle.pt_rule.specs.Lawful.{Lawful, InOrder, IsOwnTable}
+use Rattle.pt_rule.specs.Lawful.{Lawful, IsOwnTable}
 use Rattle.pt_rule.specs.WholeView.{is_frame, is_linked_in, is_table_in, prepared_frame, tables_in}
-use Rattle.pt_rule.proofs.TotalsKept.{among_all, among_cases, among_here, among_more, bit_false, false_bit}
-use Rattle.pt_model.proofs.Positions.{before_self, before_trans}
-use Rattle.pt_rule.proofs.TablesAdded.{added_cases, added_kept, added_new, order_added}
-use Rattle.pt_rule.proofs.Ordered.{either_has, same_list}
+use Rattle.pt_model.proofs.Positions.{bit_false, false_bit, among_all, added_kept, added_new, added_cases, sorted_add, same_members}
+use Rattle.pt_rule.proofs.Ordered.{either_has}
 use Rattle.pt_rule.proofs.TreeFacts.{table_there}
-
--- two lists of positions in order with the same members are one
-same_positions : (ps qs : List Position) → InOrder ps → InOrder qs → ((p : Position) → IsAmong ps p → IsAmong qs p) → ((p : Position) → IsAmong qs p → IsAmong ps p) → ps ≡ qs
-same_positions = same_list IsAmong (λ p q. IsTrue (is_before p q)) InOrder (λ p m. omega arith) among_here among_more among_cases
-    (λ p ps s q m. among_all (λ z. IsTrue (is_before p z)) ps s.0 q m) (λ p ps s. s.1) (λ p q a b. before_self p (before_trans p q p a b))
 
 -- The positions that are read.
 module _ (l : ℕ) (prepared : Option ℕ) (words : List ℕ) where
-  tables_in_order : (m : ℕ) → InOrder (tables_in l prepared words m)
+  tables_in_order : (m : ℕ) → IsSorted (tables_in l prepared words m)
   tables_in_order zero = tt
   tables_in_order (suc g) =
-      either_has InOrder (is_table_in l prepared words g) (add_position (tables_in l prepared words g) (placed_at (tag words g))) (tables_in l prepared words g)
-      (λ e. order_added (tables_in l prepared words g) (placed_at (tag words g)) (tables_in_order g)) (λ e. tables_in_order g)
+      either_has IsSorted (is_table_in l prepared words g) (add_position (tables_in l prepared words g) (placed_at (tag words g))) (tables_in l prepared words g)
+      (λ e. sorted_add (tables_in l prepared words g) (placed_at (tag words g)) (tables_in_order g)) (λ e. tables_in_order g)
 
   -- a position that is read is that of a frame
   frame_of_table : (m : ℕ) (p : Position) → IsAmong (tables_in l prepared words m) p →
@@ -118,7 +111,7 @@ module _ (f : Layout) (n l : ℕ) (words : List ℕ) (v : View) (good : IsLayout
 
   -- the tables are those that are read
   pub tables_read : v.tables ≡ tables_in l prepared words n
-  tables_read = same_positions v.tables (tables_in l prepared words n) (r.books 0 v refl live).in_order (tables_in_order l prepared words n) is_read is_own
+  tables_read = same_members v.tables (tables_in l prepared words n) (r.books 0 v refl live).in_order (tables_in_order l prepared words n) is_read is_own
 
   -- the top is the root's level
   pub top_read : v.top ≡ root_level words

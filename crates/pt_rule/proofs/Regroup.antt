@@ -18,7 +18,7 @@ use Rattle.pt_rule.specs.Totals.{Each, total, covers, holds, prepares, has_bridg
 use Rattle.pt_rule.specs.Tags.{is_placed}
 use Rattle.pt_rule.specs.Linked.{is_in_tree}
 use Rattle.pt_rule.specs.Lawful.{BooksPart, BusyPart, HasPath, IsBridged, IsPreparedAt, Lawful, PursesPart}
-use Rattle.pt_rule.proofs.TotalsKept.{all_map}
+use Rattle.pt_view.proofs.Members.{all_map}
 use Rattle.pt_rule.proofs.NotesKept.{same_range}
 use Rattle.pt_rule.proofs.PartsKept.{SameLinks, SameTree, bridged_to, links_same, parents_same, path_same, positions_same}
 

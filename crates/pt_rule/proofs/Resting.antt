@@ -17,11 +17,12 @@ use Rattle.pt_model.specs.Book.{IsLawful, lies_in, table_meets}
 use Rattle.pt_format.specs.Laws.{IsLayout}
 use Rattle.pt_view.specs.declared.view.View.{View}
 use Rattle.pt_view.specs.declared.view.Piece.{Piece}
-use Rattle.pt_model.specs.Sets.{IsAmong}
+use Rattle.pt_model.specs.Sets.{IsAmong, IsSorted}
 use Rattle.pt_view.specs.Pieces.{all_pieces, first_of, pieces_of, words_of}
 use Rattle.pt_view.specs.Views.{IsAtRest, book_of}
-use Rattle.pt_rule.specs.Lawful.{Lawful, HasBook, InOrder, IsOwnPiece, IsOwnTable}
-use Rattle.pt_rule.proofs.TotalsKept.{all_map, among_cases}
+use Rattle.pt_rule.specs.Lawful.{Lawful, HasBook, IsOwnPiece, IsOwnTable}
+use Rattle.pt_model.proofs.Positions.{among_cases, all_among}
+use Rattle.pt_view.proofs.Members.{all_map}
 use Rattle.pt_rule.proofs.SpansFacts.{page_within}
 use Rattle.pt_rule.proofs.PathOver.{block_is}
 use Rattle.pt_rule.proofs.PiecesApart.{Spaced, last_of, spaced}
@@ -41,9 +42,9 @@ contains [] p m = absurd (omega arith)
 contains (q ∷ qs) p m = ⊎_elim (λ (e : p ≡ q). (0, omega arith, sym e))
     (λ (later : IsAmong qs p). let rest = contains qs p later in (suc rest.0, (let less = rest.1 in omega arith), rest.2)) (among_cases p q qs m)
 
-tables_in_order : (ps : List Position) → InOrder ps → AllPairs (λ p q. IsTrue (is_before p q)) ps
+tables_in_order : (ps : List Position) → IsSorted ps → AllPairs (λ p q. IsTrue (is_before p q)) ps
 tables_in_order [] s = λ i j d less inside. absurd (omega arith)
-tables_in_order (p ∷ ps) s = AllPairs-cons (λ x y. IsTrue (is_before x y)) p ps (All-from_recursion (λ q. IsTrue (is_before p q)) ps s.0) (tables_in_order ps s.1)
+tables_in_order (p ∷ ps) s = AllPairs-cons (λ x y. IsTrue (is_before x y)) p ps (All-from_recursion (λ q. IsTrue (is_before p q)) ps (all_among (λ q. IsTrue (is_before p q)) ps s.0)) (tables_in_order ps s.1)
 
 -- Blocks.
 

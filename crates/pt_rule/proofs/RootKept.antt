@@ -1,39 +1,22 @@
 -- A load of the root keeps the rule, and tells a level that reaches over all that the view knows.
-use Rattle.std.proofs.Common.{◌≡◌, ◌⊎◌, inl, inr, ℕ, zero, suc, ◌+◌, ◌-◌, ◌<◌, ◌≤◌, List, ◌++◌, sym, refl, ap, ◌∙◌, subst, arith, ⊎_elim}
+use Rattle.std.proofs.Common.{◌≡◌, inl, ℕ, ◌+◌, ◌-◌, ◌<◌, ◌≤◌, List, sym, refl, ap, ◌∙◌, subst, arith, ⊎_elim}
 use Rattle.std.specs.Prelude.{IsTrue, nat_le, map, slice_index}
-use Rattle.std.specs.List.{range_with_len}
 use Rattle.std.proofs.lemmas.Bool.{and_from, le-leb}
 use mathlib.Core.Option.{some}
-use mathlib.Core.Logic.{dite}
-use native.Mathlib.Decide.{dec_le}
 use lib.ListN.{get_elem?}
+use Rattle.pt_model.proofs.Positions.{among_append, among_levels}
+use Rattle.pt_view.proofs.Members.{all_map}
 use Rattle.pt_model.specs.declared.position.Position.{Position}
 use Rattle.pt_model.specs.Layout.{Layout, input_pages}
 use Rattle.pt_model.specs.Tables.{is_spine, levels_between, spine_position, starting_top}
 use Rattle.pt_model.specs.Words.{root_level}
 use Rattle.pt_format.specs.Laws.{IsLayout}
 use Rattle.pt_view.specs.declared.view.View.{View}
-use Rattle.pt_model.specs.Sets.{IsAmong, places}
+use Rattle.pt_model.specs.Sets.{IsAmong}
 use Rattle.pt_rule.specs.Lawful.{Lawful, IsOwnTable}
 use Rattle.pt_rule.specs.Kinds.{Keeps, RootTells, after, load_root}
-use Rattle.pt_rule.proofs.TotalsKept.{places_append, among_cases, all_map}
 use Rattle.pt_rule.proofs.TreeFacts.{IsThere, level_low, ends_in_root, spine_there, table_there, whole_alone}
 use Rattle.pt_rule.proofs.FindsKept.{Finds, finds_at, table_kept}
-
-pub among_append : (p : Position) (xs ys : List Position) → IsAmong (xs ++ ys) p → IsAmong xs p ⊎ IsAmong ys p
-among_append p xs ys h = dite (dec_le (places p xs) 0)
-    (λ none. inr (let all : 0 < places p (xs ++ ys) = h in let e = places_append p xs ys in omega arith))
-    (λ some_one. inl (omega arith))
-
--- a position of the spine's list is a spine position of its levels
-pub spine_among : (n low : ℕ) (p : Position) → IsAmong (map spine_position (range_with_len low n)) p → (level : ℕ) × (low ≤ level) × (level < low + n) × (p ≡ spine_position level)
-spine_among zero low p h = absurd (let all : 0 < places p (map spine_position (range_with_len low zero)) = h in omega arith)
-spine_among (suc n) low p h = ⊎_elim
-    (λ (e : p ≡ spine_position low). (low, omega arith, omega arith, e))
-    (λ (rest : IsAmong (map spine_position (range_with_len (low + 1) n)) p).
-    let t : (level : ℕ) × (low + 1 ≤ level) × (level < low + 1 + n) × (p ≡ spine_position level) = spine_among n (low + 1) p rest in
-    let a = t.1 in let b = t.2 in (t.0, omega arith, omega arith, t.3))
-    (among_cases p (spine_position low) (map spine_position (range_with_len (low + 1) n)) h)
 
 pub spine_is : (levels level : ℕ) → starting_top levels ≤ level → IsTrue (is_spine levels (spine_position level))
 spine_is levels level low = and_from (nat_le (starting_top levels) level) _ (le-leb (starting_top levels) level low) refl
@@ -84,7 +67,7 @@ module _ (f : Layout) (n l : ℕ) (good : IsLayout f) where
         known = λ p a. ⊎_elim
             (λ (new : IsAmong (map spine_position (levels_between (starting_top v.levels) (root_level words))) p).
             let t : (level : ℕ) × (starting_top v.levels ≤ level) × (level < starting_top v.levels + (root_level words + 1 - starting_top v.levels)) × (p ≡ spine_position level) =
-            spine_among (root_level words + 1 - starting_top v.levels) (starting_top v.levels) p new in
+            among_levels spine_position (root_level words + 1 - starting_top v.levels) (starting_top v.levels) p new in
             let from = t.1 in let to = t.2 in (
               subst (IsThere f n l words views good r) (sym t.3)
                   (spine_there f n l words views good r t.0 (subst (λ (k : ℕ). starting_top k ≤ t.0) levels from) (omega arith)),

@@ -17,10 +17,9 @@ use Rattle.pt_rule.specs.Totals.{total, Each, holds, prepares, has_table, has_pi
 use Rattle.pt_rule.specs.Tags.{IsTag, is_held, is_placed}
 use Rattle.pt_rule.specs.Linked.{IsLinked, IsLinkedAt, is_in_tree}
 use Rattle.pt_rule.specs.Lawful.{Lawful, IsOwnPiece, slot_of, has_child}
-use Rattle.pt_rule.proofs.TotalsKept.{same_tells, among_cases, true_bit}
+use Rattle.pt_model.proofs.Positions.{among_cases, is_same_true, same_position, true_bit}
 use Rattle.pt_view.specs.Views.{spent}
 use Rattle.pt_rule.proofs.States.{small, at, zeros, four, tree_cases}
-use Rattle.pt_rule.proofs.PositionFacts.{same_position}
 
 abbrev pub two_pages : Block
 two_pages = record { first = 4; log2 = 1; out = 8; prot = Read }
@@ -99,7 +98,7 @@ linked_at g p a = ⊎_elim
 
 in_tree : (p : Position) → IsTrue (is_in_tree 2 words views p) → (p ≡ at 1 0) ⊎ (p ≡ at 0 4)
 in_tree p e = ⊎_elim (λ (h : (1 ≤ p.level) × (p.base ≡ 0) × (p.level ≤ 1)). inl (same_position p (at 1 0) (omega arith) h.1))
-    (λ (h : 0 < total (has_table p) views). inr (same_tells p (at 0 4) (true_bit (is_same p (at 0 4)) (omega arith)))) (tree_cases 2 words views p e)
+    (λ (h : 0 < total (has_table p) views). inr (is_same_true p (at 0 4) (true_bit (is_same p (at 0 4)) (omega arith)))) (tree_cases 2 words views p e)
 
 cleared : (g : ℕ) → g < 4 → 2 ≤ g → (i : ℕ) → i < 4 → entry_of small 4 words g i ≡ total (has_bridge small g i) views
 cleared = four (λ g. 2 ≤ g → (i : ℕ) → i < 4 → entry_of small 4 words g i ≡ total (has_bridge small g i) views)
@@ -121,7 +120,7 @@ entries_are g i p a h none = ⊎_elim
 
 apart : (i : ℕ) (p : Position) → has_child small 2 words views p i ≡ true → total (has_piece small p i) views ≡ 0
 apart i p e = ⊎_elim
-    (λ (h : is_same p (at 0 4) ≡ true). absurd (let d : true ≡ false = sym e ∙ ap (λ (q : Position). has_child small 2 words views q i) (same_tells p (at 0 4) h) in cc))
+    (λ (h : is_same p (at 0 4) ≡ true). absurd (let d : true ≡ false = sym e ∙ ap (λ (q : Position). has_child small 2 words views q i) (is_same_true p (at 0 4) h) in cc))
     (λ (h : is_same p (at 0 4) ≡ false). ap (λ (b : Bool). one_if (b && (0 == i)) + (one_if (b && (1 == i)) + 0) + 0) h) (cases_Bool (is_same p (at 0 4)))
 
 -- the two words of the block stand at two entries
@@ -180,7 +179,7 @@ shared_lawful = record {
   books = each_view _ (λ live. record {
     pieces = (own 0 (omega arith), (own 1 (omega arith), tt));
     tables = (record { a_position = record { a_level = omega arith; a_page = omega arith; aligned = refl }; off_spine = refl; meets = refl }, tt);
-    in_order = (tt, tt);
+    in_order = ((λ p m. absurd (omega arith)), tt);
     pieces_in_order = ((omega arith, tt), (tt, tt));
     top_low = omega arith;
     top_high = omega arith;

@@ -11,7 +11,8 @@ use Rattle.pt_model.specs.Layout.{Layout, input_pages}
 use Rattle.pt_view.specs.declared.view.View.{View}
 use Rattle.pt_rule.specs.Totals.{covers}
 use Rattle.pt_rule.specs.Lawful.{SpansPart}
-use Rattle.pt_rule.proofs.TotalsKept.{total_at, total_two, bit_le, bit_true, bit_false, true_bit}
+use Rattle.pt_rule.proofs.TotalsKept.{total_at, total_two}
+use Rattle.pt_model.proofs.Positions.{bit_false, bit_le, bit_true, true_bit}
 
 pub covers_in : (page : ℕ) (v : View) → v.first ≤ page → page < v.first + v.count → covers page v ≡ 1
 covers_in page v low high = bit_true (nat_le v.first page && nat_lt page (v.first + v.count)) (and_from (nat_le v.first page) _ (le-leb v.first page low) (lt-ltb page (v.first + v.count) high))

@@ -28,13 +28,15 @@ use Rattle.pt_rule.specs.Tags.{Chained, IsEnd, first_or}
 use Rattle.pt_rule.specs.Linked.{is_in_tree}
 use Rattle.pt_rule.specs.Lawful.{HasBook, HasPath, IsBridged, IsOwnPiece, IsOwnTable, IsPreparedAt, Lawful}
 use Rattle.pt_rule.specs.Kinds.{retrace}
-use Rattle.pt_rule.proofs.TotalsKept.{among_all, at_inside, each_set, in_here, times_append, total_at, total_set}
+use Rattle.pt_rule.proofs.TotalsKept.{at_inside, each_set, total_at, total_set}
+use Rattle.pt_model.proofs.Positions.{among_all, among_filtered, among_passes}
+use Rattle.pt_view.proofs.Members.{in_here, times_append}
 use Rattle.pt_rule.proofs.PartsKept.{book_same, purse_within}
 use Rattle.pt_rule.proofs.PieceFacts.{ends_in_block}
 use Rattle.pt_rule.specs.Cuts.{MaySplit, is_near, left_part, right_part, table_in}
 use Rattle.pt_rule.proofs.Regroup.{Regrouped, regrouped}
 use Rattle.pt_rule.proofs.HalfBook.{half, half_book}
-use Rattle.pt_rule.proofs.CutLists.{all_sub, among_filter, chained_back, chained_front, covers_by, each_snoc, filter_among, parts_cover, pieces_sum, seam_end, some_alike, total_snoc, two_totals, words_sum}
+use Rattle.pt_rule.proofs.CutLists.{all_sub, chained_back, chained_front, covers_by, each_snoc, parts_cover, pieces_sum, seam_end, some_alike, total_snoc, two_totals, words_sum}
 
 module _ (f : Layout) (good : IsLayout f) (n l : ℕ) (words : List ℕ) (views : List View) (id : ℕ) (v : View) (at kept : ℕ) (r : Lawful f n l words views) (here : get_elem? views id ≡ some v) (live : 0 < v.count)
     (may : MaySplit f at kept (retrace [] v)) where
@@ -96,8 +98,8 @@ module _ (f : Layout) (good : IsLayout f) (n l : ℕ) (words : List ℕ) (views 
       let under : p.base < v.first + v.count = ltb-true p.base (v.first + v.count) met.0 in
       let over : v.first < end_of_table f p = ltb-true v.first (end_of_table f p) met.1 in
       dite (dec_le at p.base)
-      (λ le. inr (filter_among (table_in f at (v.first + v.count)) v.tables p m (and_from _ _ met.0 (lt-ltb at (end_of_table f p) (let w = own.a_position.aligned in beyond p le)))))
-      (λ gt. inl (filter_among (table_in f v.first at) v.tables p m (and_from _ _ (lt-ltb p.base at (omega arith)) met.1)))
+      (λ le. inr (among_passes (table_in f at (v.first + v.count)) v.tables p m (and_from _ _ met.0 (lt-ltb at (end_of_table f p) (let w = own.a_position.aligned in beyond p le)))))
+      (λ gt. inl (among_passes (table_in f v.first at) v.tables p m (and_from _ _ (lt-ltb p.base at (omega arith)) met.1)))
     where
       beyond : (p : Position) → at ≤ p.base → at < end_of_table f p
       beyond p le = let some_page = pow_pos (f.index * (p.level + 1)) in omega arith
@@ -115,7 +117,7 @@ module _ (f : Layout) (good : IsLayout f) (n l : ℕ) (words : List ℕ) (views 
       (λ gt. omega arith))
     where
       nothing : (t : Position → Bool) → places p v.tables ≡ 0 → places p (filter t v.tables) ≡ 0
-      nothing t z = dite (dec_le 1 (places p (filter t v.tables))) (λ le. absurd (let m : 0 < places p v.tables = (among_filter t v.tables p le).0 in omega arith)) (λ gt. omega arith)
+      nothing t z = dite (dec_le 1 (places p (filter t v.tables))) (λ le. absurd (let m : 0 < places p v.tables = (among_filtered t v.tables p le).0 in omega arith)) (λ gt. omega arith)
 
   -- the pieces of each part lie in its pages
   left_inside : (x : Piece) → IsOneOf v.pieces x → IsOwnPiece f v x → nat_lt (first_of f x) at ≡ true → (v.first ≤ x.block.first) × (end_of x.block ≤ v.first + (at - v.first))
@@ -155,7 +157,7 @@ module _ (f : Layout) (good : IsLayout f) (n l : ℕ) (words : List ℕ) (views 
   known_part : (lo hi : ℕ) (w : View) → w.levels ≡ v.levels → w.first ≡ lo → w.first + w.count ≡ hi → w.known ≡ filter (is_near f v.levels lo hi) v.known → (p : Position) → IsAmong w.known p →
       IsTrue (is_in_tree l words views p) × (IsTrue (is_spine w.levels p) ⊎ IsTrue (meets_span w p.base (end_of_table f p)))
   known_part lo hi w levels first last known p m =
-      let k = among_filter (is_near f v.levels lo hi) v.known p (subst (λ (ps : List Position). IsAmong ps p) known m) in (
+      let k = among_filtered (is_near f v.levels lo hi) v.known p (subst (λ (ps : List Position). IsAmong ps p) known m) in (
         (r.known id v here p k.0).0,
         ⊎_elim (λ (s : is_spine v.levels p ≡ true). inl (subst (λ (z : ℕ). IsTrue (is_spine z p)) (sym levels) s))
             (λ (t : table_in f lo hi p ≡ true). inr (subst (λ (z : ℕ × ℕ). IsTrue (nat_lt p.base z.0 && nat_lt z.1 (end_of_table f p))) (λ i. (sym last i, sym first i)) t))

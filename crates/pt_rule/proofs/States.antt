@@ -19,7 +19,7 @@ use Rattle.pt_rule.specs.Tags.{IsTag, held_word, is_held, is_placed}
 use Rattle.pt_rule.specs.Linked.{IsLinked, IsLinkedAt, is_in_tree}
 use Rattle.pt_rule.specs.Lawful.{Lawful, slot_of, has_child}
 use Rattle.pt_rule.specs.Opening.{opening_view, IsNew}
-use Rattle.pt_rule.proofs.TotalsKept.{same_tells, among_cases, bit_le, true_bit}
+use Rattle.pt_model.proofs.Positions.{among_cases, bit_le, is_same_true, true_bit}
 
 -- Pages of 4 KiB and four entries a table, so 64 pages under three levels. A space starts with two levels.
 abbrev pub small : Layout
@@ -204,7 +204,7 @@ is_linked_at g p a = ⊎_elim
 
 mapped_tree : (p : Position) → IsTrue (is_in_tree 2 mapped_words mapped_views p) → (p ≡ at 1 0) ⊎ (p ≡ at 0 4)
 mapped_tree p e = ⊎_elim (λ (h : (1 ≤ p.level) × (p.base ≡ 0) × (p.level ≤ 1)). inl (same_position p (at 1 0) (omega arith) h.1))
-    (λ (h : 0 < total (has_table p) mapped_views). inr (same_tells p (at 0 4) (true_bit (is_same p (at 0 4)) (omega arith)))) (tree_cases 2 mapped_words mapped_views p e)
+    (λ (h : 0 < total (has_table p) mapped_views). inr (is_same_true p (at 0 4) (true_bit (is_same p (at 0 4)) (omega arith)))) (tree_cases 2 mapped_words mapped_views p e)
 
 abbrev Right : ℕ → ℕ × Position → Type 0
 Right i x = entry_of small 4 mapped_words x.0 i ≡ total (has_word small x.1 i) mapped_views
@@ -222,7 +222,7 @@ mapped_entries g i p a h none = ⊎_elim
 -- a piece stands in a table of level 0, which has no child
 mapped_apart : (i : ℕ) (p : Position) → has_child small 2 mapped_words mapped_views p i ≡ true → total (has_piece small p i) mapped_views ≡ 0
 mapped_apart i p e = ⊎_elim
-    (λ (h : is_same p (at 0 4) ≡ true). absurd (let d : true ≡ false = sym e ∙ ap (λ (q : Position). has_child small 2 mapped_words mapped_views q i) (same_tells p (at 0 4) h) in cc))
+    (λ (h : is_same p (at 0 4) ≡ true). absurd (let d : true ≡ false = sym e ∙ ap (λ (q : Position). has_child small 2 mapped_words mapped_views q i) (is_same_true p (at 0 4) h) in cc))
     (λ (h : is_same p (at 0 4) ≡ false). ap (λ (b : Bool). one_if (b && (1 == i)) + 0 + 0) h) (cases_Bool (is_same p (at 0 4)))
 
 abbrev NearTree : Position → Type 0
@@ -285,7 +285,7 @@ mapped_lawful = record {
       tt,
     );
     tables = (record { a_position = record { a_level = omega arith; a_page = omega arith; aligned = refl }; off_spine = refl; meets = refl }, tt);
-    in_order = (tt, tt);
+    in_order = ((λ p m. absurd (omega arith)), tt);
     pieces_in_order = (tt, tt);
     top_low = omega arith;
     top_high = omega arith;

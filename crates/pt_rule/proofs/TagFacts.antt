@@ -18,7 +18,8 @@ use Rattle.pt_rule.specs.Tags.{held_word, is_held, is_placed}
 use Rattle.pt_rule.specs.Linked.{IsLinked}
 use Rattle.pt_rule.specs.Lawful.{FramesPart}
 use Rattle.pt_model.proofs.Places.{tag_else}
-use Rattle.pt_rule.proofs.TotalsKept.{total_at, total_two, bit_le, bit_false, true_bit}
+use Rattle.pt_rule.proofs.TotalsKept.{total_at, total_two}
+use Rattle.pt_model.proofs.Positions.{bit_false, bit_le, true_bit}
 use Rattle.pt_rule.proofs.PartsKept.{prepares_here, prepared_within, purse_within}
 
 -- The three kinds of tags.

@@ -16,7 +16,9 @@ use Rattle.pt_rule.specs.Tags.{held, Chained, first_or, held_word, is_held, is_p
 use Rattle.pt_rule.specs.Lawful.{Lawful}
 use Rattle.pt_rule.specs.Kinds.{Keeps, take}
 use Rattle.pt_model.proofs.Places.{tag_same, tag_else}
-use Rattle.pt_rule.proofs.TotalsKept.{total_at, each_set, times_here, times_else, in_cases, bit_le, bit_true}
+use Rattle.pt_rule.proofs.TotalsKept.{total_at, each_set}
+use Rattle.pt_model.proofs.Positions.{bit_le, bit_true}
+use Rattle.pt_view.proofs.Members.{in_cases, times_else, times_here}
 use Rattle.pt_rule.proofs.PartsKept.{SameLinks, bridged_to, prepared_moved, prepares_here, chained_else, busy_set}
 use Rattle.pt_rule.proofs.TagFacts.{IsNowhere, held_is, held_unplaced, held_some, held_nonzero, tag_still, unplaced_unlinked, free_nowhere}
 use Rattle.pt_rule.proofs.NotesKept.{notes_at, path_noted}

@@ -10,8 +10,8 @@ use Rattle.pt_view.specs.declared.view.Change.TheVariants.{Written, Cleared}
 use Rattle.pt_model.specs.Sets.{IsAmong}
 use Rattle.pt_view.specs.Calls.{IsBare, MayDrop, MayUnlink, left}
 use Rattle.pt_rule.specs.Kinds.{MayCut, look, clear, unlink, unplace}
-use Rattle.pt_rule.proofs.TotalsKept.{among_cases, among_here}
-use Rattle.pt_rule.proofs.PieceFacts.{one_here}
+use Rattle.pt_model.proofs.Positions.{among_cases, among_here}
+use Rattle.pt_view.proofs.Pieces.{one_here}
 use Rattle.pt_rule.proofs.LookKept.{entry_position}
 use Rattle.pt_rule.proofs.States.{small, at, mapped_page, new_view, new_words}
 use Rattle.pt_rule.proofs.SharedState.{right}

@@ -27,10 +27,14 @@ use Rattle.pt_rule.specs.Totals.{total, covers, has_table, has_piece, has_word}
 use Rattle.pt_rule.specs.Tags.{IsTag, free, held, placed, held_word, is_placed}
 use Rattle.pt_rule.specs.Linked.{IsLinkedAt, is_in_tree}
 use Rattle.pt_rule.specs.Lawful.{Lawful, FramesPart, IsOwnPiece, IsPreparedAt, has_child}
-use Rattle.pt_rule.proofs.TotalsKept.{total_at, total_two, total_some, total_only, same_cases, same_self, bit_le, bit_true, bit_false, all_map}
+use Rattle.pt_rule.proofs.TotalsKept.{total_at, total_two, total_some, total_only}
+use Rattle.pt_model.proofs.Positions.{bit_false, bit_le, bit_true, is_same_self, same_cases, same_position}
+use Rattle.pt_model.proofs.Quotients.{entry_some}
+use Rattle.pt_view.proofs.Members.{all_map}
+use Rattle.pt_view.proofs.Pieces.{number_below, one_here}
 use Rattle.pt_rule.proofs.TagFacts.{IsPreparedBy, prepared_by}
-use Rattle.pt_rule.proofs.PositionFacts.{same_position, slot_of_child, parent_of_child, is_child, parent_low, parent_up, end_in_parent, level_within, entry_some}
-use Rattle.pt_rule.proofs.PieceFacts.{number_below, ends_in_block, first_is_entry's, may_be_leaf, is_under_piece, one_here, IsOneAt, no_words, some_at, one_at}
+use Rattle.pt_rule.proofs.PositionFacts.{slot_of_child, parent_of_child, is_child, parent_low, parent_up, end_in_parent, level_within}
+use Rattle.pt_rule.proofs.PieceFacts.{ends_in_block, first_is_entry's, may_be_leaf, is_under_piece, IsOneAt, no_words, some_at, one_at}
 
 -- Tags and addresses say what they were made of.
 
@@ -159,7 +163,7 @@ module _ (f : Layout) (n l : ℕ) (words : List ℕ) (views : List View) (good :
   ends_within (suc k) p t far = ⊎_elim
       (λ (e : p ≡ spine_position (root_level words)). let h : end_of_table f p ≡ 0 + pages_of_table f (root_level words) = ap (end_of_table f) e in omega arith)
       (λ (ne : is_same p (spine_position (root_level words)) ≡ false).
-      let up : IsThere (parent_of f p) = r.parents.closed p t (λ e. false≢true (sym ne ∙ ap (is_same p) (sym e) ∙ same_self p)) in
+      let up : IsThere (parent_of f p) = r.parents.closed p t (λ e. false≢true (sym ne ∙ ap (is_same p) (sym e) ∙ is_same_self p p refl)) in
       let rest = ends_within k (parent_of f p) up (omega arith) in
       let one = end_in_parent f p (there_position p t).aligned in omega (arith, rest, one))
       (same_cases p (spine_position (root_level words)))

@@ -10,6 +10,11 @@ use mathlib.Core.Option.{some, some-injective}
 use mathlib.Core.Logic.{dite}
 use native.Mathlib.Decide.{ℕ_discrete, dec_le}
 use lib.ListN.{get_elem?}
+use Rattle.pt_model.proofs.Positions.{among_all}
+use Rattle.pt_model.proofs.Quotients.{entry_some, table_is_entries, whole}
+use Rattle.pt_view.proofs.Members.{all_append}
+use Rattle.pt_view.proofs.Paths.{all_front, lowest_has}
+use Rattle.pt_view.proofs.Pieces.{one_here}
 use Rattle.pt_model.specs.declared.position.Position.{Position}
 use Rattle.pt_model.specs.Layout.{Layout, end_of, pages_of_entry, pages_of_table}
 use Rattle.pt_model.specs.Tables.{IsPosition, child_at, end_of_table, is_spine, least_top, levels_between, needed, parent_of, position_over, spine_position, starting_top}
@@ -20,33 +25,27 @@ use Rattle.pt_view.specs.declared.view.Node.{Node}
 use Rattle.pt_view.specs.declared.view.Piece.{Piece}
 use Rattle.pt_model.specs.Sets.{places, IsAmong}
 use Rattle.pt_view.specs.Pieces.{IsOneOf, first_of, table_of, number_of, level_of}
-use Rattle.pt_view.specs.Calls.{above, begins_under, entry_first, entry_end, is_under, lowest, meets_span, pieces_at, span_end}
+use Rattle.pt_view.specs.Calls.{begins_under, entry_first, entry_end, is_under, lowest, meets_span, pieces_at, span_end, all_but_last}
 use Rattle.pt_rule.specs.Totals.{total, has_table, has_piece}
 use Rattle.pt_rule.specs.Linked.{IsLinkedAt}
 use Rattle.pt_rule.specs.Lawful.{Lawful, IsOwnPiece, IsOwnTable, BeginsOnSpine, Descends, has_child}
 use Rattle.pt_rule.specs.Kinds.{MayCut}
-use Rattle.pt_rule.proofs.TotalsKept.{total_some, all_append, among_all}
+use Rattle.pt_rule.proofs.TotalsKept.{total_some}
 use Rattle.pt_rule.proofs.SpansFacts.{spans_apart}
-use Rattle.pt_rule.proofs.PositionFacts.{child_quotient, end_of_child, entry_some, table_is_entries, end_in_parent, whole}
-use Rattle.pt_rule.proofs.PieceFacts.{ends_in_block, one_here, some_at}
+use Rattle.pt_rule.proofs.PositionFacts.{child_quotient, end_of_child, end_in_parent}
+use Rattle.pt_rule.proofs.PieceFacts.{ends_in_block, some_at}
 use Rattle.pt_rule.proofs.PathTables.{all_levels}
 use Rattle.pt_rule.proofs.PathOver.{next_multiple, same_over}
-use Rattle.pt_rule.proofs.LookKept.{lowest_has}
 use Rattle.pt_rule.proofs.TreeFacts.{IsThere, all_both, all_one_of, is_position, linked_there, live_piece, live_table, no_words_of, there_position}
 
 -- Paths without their last node.
 
-pub all_above : (P : Node → Type 0) (xs : List Node) → AllByRecursion P xs → AllByRecursion P (above xs)
-all_above P [] all = tt
-all_above P (x ∷ []) all = tt
-all_above P (x ∷ y ∷ xs) all = (all.0, all_above P (y ∷ xs) all.1)
-
-pub begins_above : (levels : ℕ) (xs : List Node) → BeginsOnSpine levels xs → BeginsOnSpine levels (above xs)
+pub begins_above : (levels : ℕ) (xs : List Node) → BeginsOnSpine levels xs → BeginsOnSpine levels (all_but_last xs)
 begins_above levels [] h = tt
 begins_above levels (x ∷ []) h = tt
 begins_above levels (x ∷ y ∷ xs) h = h
 
-pub descends_above : (f : Layout) (xs : List Node) → Descends f xs → Descends f (above xs)
+pub descends_above : (f : Layout) (xs : List Node) → Descends f xs → Descends f (all_but_last xs)
 descends_above f [] h = tt
 descends_above f (x ∷ []) h = tt
 descends_above f (x ∷ y ∷ []) h = tt
@@ -59,7 +58,7 @@ lowest_low f y (z ∷ zs) x e h =
     let rest = lowest_low f z zs x e h.1 in
     let level : z.position.level ≡ y.position.level - 1 = ap (λ (q : Position). q.level) h.0.is in omega arith
 
-pub higher_above : (f : Layout) (xs : List Node) (x : Node) → lowest xs ≡ Some x → Descends f xs → AllByRecursion (λ y. x.position.level < y.position.level) (above xs)
+pub higher_above : (f : Layout) (xs : List Node) (x : Node) → lowest xs ≡ Some x → Descends f xs → AllByRecursion (λ y. x.position.level < y.position.level) (all_but_last xs)
 higher_above f [] x e h = tt
 higher_above f (y ∷ []) x e h = tt
 higher_above f (y ∷ z ∷ zs) x e h = (
@@ -99,7 +98,7 @@ module _ (f : Layout) (n l : ℕ) (good : IsLayout f) (words : List ℕ) (views 
   There = IsThere f n l words views good r
 
   pub over_linked : IsLinkedAt n words views frame p
-  over_linked = (lowest_has _ (above v.path) (record { frame = frame; position = p }) may.over (all_above _ v.path (r.paths id v at).nodes)).at
+  over_linked = (lowest_has _ (all_but_last v.path) (record { frame = frame; position = p }) may.over (all_front _ v.path (r.paths id v at).nodes)).at
 
   pub child_linked : IsLinkedAt n words views g child
   child_linked = (lowest_has _ v.path (record { frame = g; position = child }) may.last (r.paths id v at).nodes).at

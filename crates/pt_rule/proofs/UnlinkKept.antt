@@ -19,7 +19,7 @@ use Rattle.pt_view.specs.declared.view.Piece.{Piece}
 use Rattle.pt_view.specs.declared.view.Prepared.{Prepared}
 use Rattle.pt_model.specs.Sets.{one_if, places, IsAmong, without_position}
 use Rattle.pt_view.specs.Pieces.{IsOneOf, table_of}
-use Rattle.pt_view.specs.Calls.{above, meets_span}
+use Rattle.pt_view.specs.Calls.{meets_span, all_but_last}
 use Rattle.pt_view.specs.Views.{spent, SameRange}
 use Rattle.pt_rule.specs.Totals.{total, bridge_in, bridge_pointer, has_bridge, has_piece, has_table, has_word, holds, is_prepared, prepares}
 use Rattle.pt_rule.specs.Tags.{IsTag, is_held, is_placed}
@@ -27,14 +27,17 @@ use Rattle.pt_rule.specs.Linked.{IsLinked, IsLinkedAt, is_in_tree}
 use Rattle.pt_rule.specs.Lawful.{Lawful, BooksPart, EntriesPart, FramesPart, HasBook, HasBridge, HasPath, IsBridged, IsOnPath, IsOwnPiece, IsOwnTable, IsPreparedAt, KnownPart, ParentsPart, PathsPart, PositionsPart, RootPart, has_child, slot_of}
 use Rattle.pt_rule.specs.Kinds.{Keeps, MayCut, UnlinkTells, unlink, unlinked}
 use Rattle.pt_model.proofs.Places.{entry_else, entry_same, length_kept, root_after_entry, tag_after_entry}
-use Rattle.pt_rule.proofs.TotalsKept.{all_map, at_inside, bit_false, bit_true, each_set, same_cases, same_self, total_at, total_only, total_same, total_set}
+use Rattle.pt_rule.proofs.TotalsKept.{at_inside, each_set, total_at, total_only, total_same, total_set}
+use Rattle.pt_model.proofs.Positions.{bit_false, bit_true, is_same_self, same_cases}
+use Rattle.pt_view.proofs.Members.{all_map}
+use Rattle.pt_view.proofs.Paths.{all_front}
 use Rattle.pt_rule.proofs.PartsKept.{prepared_moved, prepared_within, spans_set, books_set, busy_set, purses_same, sizes_same}
 use Rattle.pt_rule.proofs.PositionFacts.{child_of_parent, parent_of_child, slot_below, slot_of_child}
 use Rattle.pt_rule.proofs.TagFacts.{no_bridge}
 use Rattle.pt_rule.proofs.TreeFacts.{all_both, linked_there, level_low, no_words_of, one_frame, pointer_at, table_there, there_position}
 use Rattle.pt_rule.proofs.FindsKept.{table_kept, tree_found}
 use Rattle.pt_rule.proofs.Dropped.{all_filtered, entry_cases, one_lost, order_without, without_is}
-use Rattle.pt_rule.proofs.UnlinkFacts.{all_above, begins_above, descends_above, higher_above, over_linked, child_linked, place, levels_are, child_is_there, own, meets_mine, not_theirs, not_parent, no_home, pieces_own, zeros, not_needed}
+use Rattle.pt_rule.proofs.UnlinkFacts.{begins_above, descends_above, higher_above, over_linked, child_linked, place, levels_are, child_is_there, own, meets_mine, not_theirs, not_parent, no_home, pieces_own, zeros, not_needed}
 
 module _ (f : Layout) (n l : ℕ) (good : IsLayout f) (words : List ℕ) (views : List View) (r : Lawful f n l words views) (id : ℕ) (v : View) (at : get_elem? views id ≡ some v) (live : 0 < v.count) (frame number : ℕ) (may : MayCut f v frame number) where
   abbrev p : Position
@@ -104,7 +107,7 @@ module _ (f : Layout) (n l : ℕ) (good : IsLayout f) (words : List ℕ) (views 
   was : (ps : List Position) (q : Position) → IsAmong (without_position child ps) q → (q ≡ child → ⊥) × IsAmong ps q
   was ps q m =
       let a : (is_same child q ≡ false) × IsAmong ps q = (without_is child ps q).0 m in
-      (λ e. false≢true (sym a.0 ∙ ap (is_same child) e ∙ same_self child), a.1)
+      (λ e. false≢true (sym a.0 ∙ ap (is_same child) e ∙ is_same_self child child refl), a.1)
 
   low : child.level < root_level words
   low = let high = may.bare.high in let a = level_low f n l words views good r p (linked_there f n l words views good r frame p frame_at) in omega arith
@@ -403,12 +406,12 @@ module _ (f : Layout) (n l : ℕ) (good : IsLayout f) (words : List ℕ) (views 
   paths_cut : PathsPart f n words' views'
   paths_cut = each_set (HasPath f n words views) (HasPath f n words' views') views id v w at
       (let old = r.paths id v at in record {
-        nodes = all_map (λ x. IsOnPath f n words views v x × (child.level < x.position.level)) (IsOnPath f n words' views' w) (above v.path)
+        nodes = all_map (λ x. IsOnPath f n words views v x × (child.level < x.position.level)) (IsOnPath f n words' views' w) (all_but_last v.path)
             (λ x c. record {
               at = to_linked_at x.frame x.position (λ e. let level : x.position.level ≡ child.level = ap (λ (q : Position). q.level) e in let high = c.1 in omega arith) c.0.at;
               near = c.0.near;
             })
-            (all_both (IsOnPath f n words views v) (λ x. child.level < x.position.level) (above v.path) (all_above (IsOnPath f n words views v) v.path old.nodes)
+            (all_both (IsOnPath f n words views v) (λ x. child.level < x.position.level) (all_but_last v.path) (all_front (IsOnPath f n words views v) v.path old.nodes)
             (higher_above f v.path (record { frame = g; position = child }) may.last old.descends));
         begins = begins_above v.levels v.path old.begins;
         descends = descends_above f v.path old.descends;

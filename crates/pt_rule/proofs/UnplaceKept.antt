@@ -10,7 +10,9 @@ use Rattle.pt_rule.specs.Totals.{bridge_in, is_prepared}
 use Rattle.pt_rule.specs.Tags.{held, Chained, first_or, held_word, is_held}
 use Rattle.pt_rule.specs.Kinds.{Keeps, unplace}
 use Rattle.pt_model.proofs.Places.{tag_same}
-use Rattle.pt_rule.proofs.TotalsKept.{each_set, times_here, times_else, bit_true, bit_false}
+use Rattle.pt_rule.proofs.TotalsKept.{each_set}
+use Rattle.pt_model.proofs.Positions.{bit_false, bit_true}
+use Rattle.pt_view.proofs.Members.{times_else, times_here}
 use Rattle.pt_rule.proofs.PartsKept.{chained_else, busy_set}
 use Rattle.pt_rule.proofs.TagFacts.{IsPreparedBy, prepared_by, held_is, held_unplaced, held_nonzero, placed_unheld, tag_still, unplaced_unlinked, prepared_unlinked, no_bridge}
 use Rattle.pt_rule.proofs.TagKept.{tag_kept}

@@ -1,13 +1,16 @@
 -- The manual's walk of lawful words, table by table.
 use Rattle.std.proofs.Common.{◌≡◌, ◌⊎◌, inl, inr, ℕ, zero, suc, ◌+◌, ◌-◌, ◌*◌, ◌/◌, ◌%◌, ◌^◌, ◌<◌, ◌≤◌, List, [], ◌∷◌, refl, ap, sym, ◌∙◌, subst, arith, true, length}
 use Rattle.std.specs.Prelude.{nat_lt, Some}
-use Rattle.std.specs.List.{AllByRecursion}
 use Rattle.std.proofs.lemmas.Bool.{and_from, cases_lt, lt-ltb, false≢true}
 use Rattle.std.proofs.lemmas.Nat.{pow_pos, mod_below, mod-mul-add, div-mul-add, shr_split}
 use mathlib.Core.Option.{some, some-injective, some-ne-none}
 use mathlib.Core.Logic.{dite}
 use native.Mathlib.Decide.{ℕ_discrete}
 use lib.ListN.{get_elem?}
+use Rattle.pt_model.proofs.Positions.{same_position}
+use Rattle.pt_model.proofs.Quotients.{base_lemma, quotient, table_is_entries}
+use Rattle.pt_view.proofs.Members.{one_has}
+use Rattle.pt_view.proofs.Pieces.{counted, here_one}
 use Rattle.pt_model.specs.declared.block.Prot.{Prot}
 use Rattle.pt_model.specs.declared.position.Position.{Position}
 use Rattle.pt_model.specs.Layout.{Layout, Found, Reached, nothing, page, table, nowhere, at_byte, strange, pages_of_entry, pages_of_table}
@@ -26,23 +29,13 @@ use Rattle.pt_rule.specs.Linked.{IsLinkedAt}
 use Rattle.pt_rule.specs.Lawful.{Lawful, IsOwnPiece, has_child}
 use Rattle.pt_rule.specs.Union.{IsCovered, byte_of_piece, IsUnion, WalkIsUnion}
 use Rattle.pt_rule.proofs.TotalsKept.{total_at, total_two}
-use Rattle.pt_rule.proofs.PositionFacts.{base_lemma, quotient, table_is_entries, parent_of_child, same_position}
-use Rattle.pt_rule.proofs.PieceFacts.{first_whole, may_be_leaf, here_one}
+use Rattle.pt_rule.proofs.PositionFacts.{parent_of_child}
+use Rattle.pt_rule.proofs.PieceFacts.{first_whole, may_be_leaf}
 use Rattle.pt_rule.proofs.PiecesApart.{IsHome, all_home, stands}
 use Rattle.pt_rule.proofs.TreeFacts as tree
 use Rattle.pt_rule.proofs.TreeFacts.{IsEntry, IsOnePiece, IsThere, entry_is, entry_of_piece, level_of_piece, frame_back, is_address, linked_there, live_piece, parent_there}
 
 -- Pieces of lists.
-
-pub pick : (P : Piece → Type 0) (xs : List Piece) (x : Piece) → AllByRecursion P xs → IsOneOf xs x → P x
-pick P [] x a h = absurd h
-pick P (y ∷ ys) x a (inl e) = subst P e a.0
-pick P (y ∷ ys) x a (inr h) = pick P ys x a.1 h
-
-stands_at : (f : Layout) (p : Position) (i : ℕ) (xs : List Piece) (x : Piece) → IsOneOf xs x → pieces_at f p i (x ∷ []) ≡ 1 → 0 < pieces_at f p i xs
-stands_at f p i [] x h one = absurd h
-stands_at f p i (y ∷ ys) x (inl e) one = let same : pieces_at f p i (y ∷ []) ≡ pieces_at f p i (x ∷ []) = ap (λ (z : Piece). pieces_at f p i (z ∷ [])) e in omega arith
-stands_at f p i (y ∷ ys) x (inr h) one = let rest = stands_at f p i ys x h one in omega arith
 
 -- where one piece stands at an entry, two that do are one
 only_one : (f : Layout) (p : Position) (i : ℕ) (xs : List Piece) (x y : Piece) → pieces_at f p i xs ≤ 1 → IsOneOf xs x → IsOneOf xs y →
@@ -51,10 +44,10 @@ only_one f p i [] x y few h k one two = absurd h
 only_one f p i (z ∷ zs) x y few (inl e) (inl g) one two = sym e ∙ g
 only_one f p i (z ∷ zs) x y few (inl e) (inr k) one two =
     let same : pieces_at f p i (z ∷ []) ≡ pieces_at f p i (x ∷ []) = ap (λ (w : Piece). pieces_at f p i (w ∷ [])) e in
-    let more = stands_at f p i zs y k two in absurd (omega arith)
+    let more = counted f p i zs y k two in absurd (omega arith)
 only_one f p i (z ∷ zs) x y few (inr h) (inl g) one two =
     let same : pieces_at f p i (z ∷ []) ≡ pieces_at f p i (y ∷ []) = ap (λ (w : Piece). pieces_at f p i (w ∷ [])) g in
-    let more = stands_at f p i zs x h one in absurd (omega arith)
+    let more = counted f p i zs x h one in absurd (omega arith)
 only_one f p i (z ∷ zs) x y few (inr h) (inr k) one two = only_one f p i zs x y (omega arith) h k one two
 
 -- Whether a page is covered is decided.
@@ -276,7 +269,7 @@ module _ (f : Layout) (good : IsLayout f) (agree : StepsAgree f) (walk : IsWalk 
       live = live_piece f n l words views good r c.index c.view c.at (table_of f c.piece) (number_of f c.piece) (stands f c.view.pieces c.piece c.own)
 
       home : IsHome f n l words views good r c.index c.view c.at c.piece
-      home = pick (IsHome f n l words views good r c.index c.view c.at) c.view.pieces c.piece (all_home f n l words views good r c.index c.view c.at live) c.own
+      home = one_has (IsHome f n l words views good r c.index c.view c.at) c.view.pieces c.piece (all_home f n l words views good r c.index c.view c.at live) c.own
 
       has : Has f c.piece here
       has = (c.from, c.to)
@@ -286,7 +279,7 @@ module _ (f : Layout) (good : IsLayout f) (agree : StepsAgree f) (walk : IsWalk 
 
       some_here : 0 < total (has_piece f (over f here lx) (slot f here lx)) views
       some_here =
-          let one = stands_at f (over f here lx) (slot f here lx) c.view.pieces c.piece c.own here_one' in
+          let one = counted f (over f here lx) (slot f here lx) c.view.pieces c.piece c.own here_one' in
           let most = total_at (has_piece f (over f here lx) (slot f here lx)) views c.index c.view c.at in omega arith
 
       up : (k : ℕ) → lx + k ≤ root_level words → IsThere f n l words views good r (over f here (lx + k))
@@ -302,7 +295,7 @@ module _ (f : Layout) (good : IsLayout f) (agree : StepsAgree f) (walk : IsWalk 
       same_piece : (one : IsOnePiece f views (over f here lx) (slot f here lx)) → one.piece ≡ c.piece
       same_piece one =
           let once = r.entries.once (slot f here lx) (over f here lx) in
-          let mine = stands_at f (over f here lx) (slot f here lx) c.view.pieces c.piece c.own here_one' in
+          let mine = counted f (over f here lx) (slot f here lx) c.view.pieces c.piece c.own here_one' in
           let theirs = one.alone in
           let same : one.view ≡ c.view = dite (ℕ_discrete one.index c.index)
           (λ e. some-injective one.view c.view (sym one.at ∙ ap (get_elem? views) e ∙ c.at))
@@ -363,7 +356,7 @@ module _ (f : Layout) (good : IsLayout f) (agree : StepsAgree f) (walk : IsWalk 
       as_one : (level : ℕ) → level ≡ lx → (one : IsOnePiece f views (over f here level) (slot f here level)) × (one.piece ≡ c.piece)
       as_one level e =
           let once = r.entries.once (slot f here lx) (over f here lx) in
-          let mine = stands_at f (over f here lx) (slot f here lx) c.view.pieces c.piece c.own here_one' in
+          let mine = counted f (over f here lx) (slot f here lx) c.view.pieces c.piece c.own here_one' in
           let most = total_at (has_piece f (over f here lx) (slot f here lx)) views c.index c.view c.at in
           let alone' : pieces_at f (over f here lx) (slot f here lx) c.view.pieces ≡ 1 = omega arith in (
             record {

@@ -7,6 +7,11 @@ use mathlib.Core.Option.{some, some-injective}
 use mathlib.Core.Logic.{dite}
 use native.Mathlib.Decide.{ℕ_discrete, dec_le}
 use lib.ListN.{get_elem?}
+use Rattle.pt_model.proofs.Positions.{among_all, among_cases, bit_le}
+use Rattle.pt_model.proofs.Quotients.{entry_is_table, entry_some}
+use Rattle.pt_view.proofs.Members.{all_map}
+use Rattle.pt_view.proofs.Paths.{lowest_has}
+use Rattle.pt_view.proofs.Pieces.{one_here}
 use Rattle.pt_model.specs.declared.position.Position.{Position}
 use Rattle.pt_model.specs.Layout.{Layout, input_pages, end_of, pages_of_table}
 use Rattle.pt_model.specs.Tables.{IsPosition, child_at, end_of_table, is_spine, position_over, starting_top}
@@ -22,18 +27,11 @@ use Rattle.pt_rule.specs.Totals.{total, covers, has_table, has_piece, has_word}
 use Rattle.pt_rule.specs.Linked.{IsLinkedAt, is_in_tree}
 use Rattle.pt_rule.specs.Lawful.{Lawful, HasPath, IsOnPath, IsOwnTable, BeginsOnSpine, Descends, has_child}
 use Rattle.pt_rule.specs.Kinds.{IsLowestIn}
-use Rattle.pt_rule.proofs.TotalsKept.{total_at, total_two, total_some, bit_le, all_map, among_all, among_cases}
-use Rattle.pt_rule.proofs.PositionFacts.{entry_is_table, entry_some}
-use Rattle.pt_rule.proofs.PieceFacts.{one_here}
+use Rattle.pt_rule.proofs.TotalsKept.{total_at, total_two, total_some}
 use Rattle.pt_rule.proofs.TreeFacts.{an_empty, a_piece, a_child, IsOnePiece, is_position, linked_there, level_low, live_table, one_piece, entry_is, own_view, covers_page, level_of_piece}
 use Rattle.pt_rule.proofs.PathOver.{IsAligned, LiesOver, lies_over, ends_under}
 
 -- Paths.
-
-pub lowest_has : (P : Node → Type 0) (xs : List Node) (x : Node) → AllByRecursion P xs → lowest xs ≡ Some x → P x
-lowest_has P [] x all e = absurd (let w : ⊥ = cc in w)
-lowest_has P (y ∷ []) x all e = let same : y ≡ x = cc in subst P same all.0
-lowest_has P (y ∷ z ∷ xs) x all e = lowest_has P (z ∷ xs) x all.1 e
 
 pub path_has : (P : Node → Type 0) (xs : List Node) (q : Position) → AllByRecursion P xs → IsAmong (map (λ (x : Node). x.position) xs) q → (x : Node) × P x × (x.position ≡ q)
 path_has P [] q all m = absurd (omega arith)
@@ -75,7 +73,7 @@ module _ (f : Layout) (n l : ℕ) (good : IsLayout f) (words : List ℕ) (views 
 
     pub linked_here : IsLinkedAt n words views frame there
     linked_here =
-        let on : IsOnPath f n words views v node = lowest_has (IsOnPath f n words views v) v.path node (r.paths id v at).nodes may.entry.is_lowest in
+        let on : IsOnPath f n words views v node = lowest_has (IsOnPath f n words views v) v.path node may.entry.is_lowest (r.paths id v at).nodes in
         subst (λ (s : ℕ × Position). IsLinkedAt n words views s.0 s.1) (λ i. ((node_is i).frame, may.entry.at i)) on.at
 
     pub level_is : there.level ≡ level_of f x

@@ -25,13 +25,15 @@ use Rattle.pt_rule.specs.Lawful.{Lawful, EntriesPart, HasBook, IsOnPath, IsOwnPi
 use Rattle.pt_rule.specs.Kinds.{Keeps, IsLowestIn, WriteTells, write, written}
 use Rattle.pt_model.proofs.Places.{entry_same, entry_else, tag_after_entry, root_after_entry, length_kept}
 use Rattle.pt_rule.proofs.Ordered.{all_with_piece, piece_in_order}
-use Rattle.pt_rule.proofs.TotalsKept.{bit_le, total_same, total_set, each_set, all_map, all_append, all_among, among_all}
+use Rattle.pt_rule.proofs.TotalsKept.{total_same, total_set, each_set}
+use Rattle.pt_model.proofs.Positions.{adds_again, adds_cases, adds_kept, adds_new, all_among, among_all, among_filtered, among_passes, bit_le, sorted_adds}
+use Rattle.pt_view.proofs.Members.{all_append, all_map}
+use Rattle.pt_view.proofs.Pieces.{one_here}
 use Rattle.pt_rule.proofs.PartsKept.{SameLinks, links_same, linked_back, SameTree, spans_set, frames_same, positions_same, root_same, parents_same, books_set, paths_set, path_same, purses_same, sizes_same, busy_set, known_set}
 use Rattle.pt_rule.proofs.PositionFacts.{child_of_parent, slot_below}
-use Rattle.pt_rule.proofs.PieceFacts.{one_here}
 use Rattle.pt_rule.proofs.TreeFacts.{is_position, linked_there, one_frame, table_there, whole_alone, whole_tree}
 use Rattle.pt_rule.proofs.FindsKept.{piece_kept, tree_found}
-use Rattle.pt_rule.proofs.PathTables.{adds_again, among_adds, adds_kept, adds_new, in_order_adds, among_filtered, among_passes, all_levels}
+use Rattle.pt_rule.proofs.PathTables.{all_levels}
 use Rattle.pt_model.proofs.Tops.{above_top, reaches_top, table_mono}
 use Rattle.pt_rule.proofs.PathOver.{same_over}
 use Rattle.pt_rule.proofs.WriteFacts.{ReachesOver, path_has, linked_here, no_child, no_piece, was_zero, no_word, on_path, reaches}
@@ -108,7 +110,7 @@ module _ (f : Layout) (n l : ℕ) (good : IsLayout f) (words : List ℕ) (views 
 
   found : (q : Position) → IsAmong w.tables q → IsTrue (is_in_tree l words views q)
   found q m = ⊎_elim (λ (old : IsAmong v.tables q). table_there f n l words views good r id v at q old) (λ (new : IsAmong (off_spine v.levels v.path) q). (on_tables q new).1)
-      (among_adds (off_spine v.levels v.path) v.tables q m)
+      (adds_cases (off_spine v.levels v.path) v.tables q m)
 
   tree : SameTree l words words' views views'
   tree = record {
@@ -172,8 +174,8 @@ module _ (f : Layout) (n l : ℕ) (good : IsLayout f) (words : List ℕ) (views 
       record {
         pieces = all_with_piece f (IsOwnPiece f w) v.pieces x (all_map (IsOwnPiece f v) (IsOwnPiece f w) v.pieces (λ y a. piece_kept f y v w same raised.0 kept wide a) old.pieces) own;
         tables = all_among (IsOwnTable f w) w.tables (λ q m. ⊎_elim (λ (was : IsAmong v.tables q). own_table q (among_all (IsOwnTable f v) v.tables old.tables q was))
-            (λ (new : IsAmong (off_spine v.levels v.path) q). (on_tables q new).0) (among_adds (off_spine v.levels v.path) v.tables q m));
-        in_order = in_order_adds (off_spine v.levels v.path) v.tables old.in_order;
+            (λ (new : IsAmong (off_spine v.levels v.path) q). (on_tables q new).0) (adds_cases (off_spine v.levels v.path) v.tables q m));
+        in_order = sorted_adds (off_spine v.levels v.path) v.tables old.in_order;
         pieces_in_order = piece_in_order f v.pieces x old.pieces_in_order;
         top_low = (let a = old.top_low in let t = raised.0 in omega arith);
         top_high = (let a = top_high in let t = raised.2 in omega arith);

@@ -17,7 +17,7 @@ use Rattle.pt_view.specs.declared.view.Change.TheVariants.{Written, Cleared}
 use Rattle.pt_model.specs.Sets.{IsAmong, without_position}
 use Rattle.pt_view.specs.Lists.{IsIn}
 use Rattle.pt_view.specs.Pieces.{IsOneOf, add_piece, number_of, table_of, word_of}
-use Rattle.pt_view.specs.Calls.{above, drop_at, lowest, entry_first, IsBare, IsEntryAt, IsVacant, MeetsEntry, MayDrop, MayInstall, MayPut, off_spine, pieces_at, with_table}
+use Rattle.pt_view.specs.Calls.{drop_at, lowest, entry_first, IsBare, IsEntryAt, IsVacant, MeetsEntry, MayDrop, MayInstall, MayPut, off_spine, pieces_at, with_table, all_but_last}
 use Rattle.pt_rule.specs.Tags.{IsEnd, first_or, held_word}
 use Rattle.pt_rule.specs.Lawful.{Lawful, IsOwnPiece}
 
@@ -175,7 +175,7 @@ abbrev pub unlinked : Option Node → View → View
 unlinked None v = v
 unlinked (Some x) v = record v {
   tables = without_position x.position v.tables;
-  path = above v.path;
+  path = all_but_last v.path;
   prepared = Some (record { frame = x.frame; position = x.position; bridge = None });
   known = without_position x.position v.known;
 }
@@ -234,7 +234,7 @@ IsLowestIn v frame = (p : Position) × (lowest v.path ≡ Some (record { frame =
 pub record MayCut (f : Layout) (v : View) (frame number : ℕ) : Type 0 where
   pub position : Position
   pub child : ℕ
-  pub over : lowest (above v.path) ≡ Some (record { frame = frame; position = position })
+  pub over : lowest (all_but_last v.path) ≡ Some (record { frame = frame; position = position })
   pub last : lowest v.path ≡ Some (record { frame = child; position = child_at f position number })
   pub within : number < 2 ^ f.index
   pub bare : IsBare f v position number

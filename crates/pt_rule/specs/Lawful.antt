@@ -7,13 +7,13 @@ use mathlib.Core.Option.{some}
 use lib.ListN.{get_elem?}
 use Rattle.pt_model.specs.declared.position.Position.{Position}
 use Rattle.pt_model.specs.Layout.{Layout, IsLegalBlock, input_pages, end_of, pages_of_table}
-use Rattle.pt_model.specs.Tables.{IsPosition, child_at, end_of_table, is_before, is_spine, needed, parent_of, spine_position, starting_top}
+use Rattle.pt_model.specs.Tables.{IsPosition, child_at, end_of_table, is_spine, needed, parent_of, spine_position, starting_top}
 use Rattle.pt_model.specs.Words.{word_count, tag, placed_at, entry_of, root_frame, root_level, frame_limit, frame_address}
 use Rattle.pt_view.specs.declared.view.View.{View}
 use Rattle.pt_view.specs.declared.view.Node.{Node}
 use Rattle.pt_view.specs.declared.view.Piece.{Piece}
 use Rattle.pt_view.specs.declared.view.Prepared.{Prepared}
-use Rattle.pt_model.specs.Sets.{one_if, IsAmong}
+use Rattle.pt_model.specs.Sets.{one_if, IsAmong, IsSorted}
 use Rattle.pt_view.specs.Lists.{IsIn}
 use Rattle.pt_view.specs.Pieces.{first_of, table_of, words_of}
 use Rattle.pt_view.specs.Calls.{is_in_span, meets_span}
@@ -105,10 +105,6 @@ pub record IsOwnTable (f : Layout) (v : View) (p : Position) : Type 0 where
   pub off_spine : is_spine v.levels p ≡ false
   pub meets : IsTrue (meets_span v p.base (end_of_table f p))
 
-abbrev pub InOrder : List Position → Type 0
-InOrder [] = Unit {0}
-InOrder (p ∷ ps) = AllByRecursion (λ q. IsTrue (is_before p q)) ps × InOrder ps
-
 -- the pieces are in the order of their first pages
 abbrev pub PiecesInOrder : Layout → List Piece → Type 0
 PiecesInOrder f [] = Unit {0}
@@ -117,7 +113,7 @@ PiecesInOrder f (x ∷ xs) = AllByRecursion (λ y. first_of f x ≤ first_of f y
 pub record HasBook (f : Layout) (v : View) : Type 0 where
   pub pieces : AllByRecursion (IsOwnPiece f v) v.pieces
   pub tables : AllByRecursion (IsOwnTable f v) v.tables
-  pub in_order : InOrder v.tables
+  pub in_order : IsSorted v.tables
   pub pieces_in_order : PiecesInOrder f v.pieces
   pub top_low : starting_top v.levels ≤ v.top
   pub top_high : v.top < f.levels

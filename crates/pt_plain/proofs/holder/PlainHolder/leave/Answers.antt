@@ -1,7 +1,7 @@
 use Rattle.std.proofs.Common.{◌<◌, length, refl, sym, subst}
 use Rattle.pt_plain.specs.Owner.{Owned}
 use Rattle.pt_plain.proofs.Owners.{kept_aside, seen}
-use Rattle.pt_plain.proofs.PathCalls.{Left, leave}
+use Rattle.pt_plain.proofs.PathCalls.{leave}
 use Rattle.pt_plain.proofs.holder.PlainHolder.leave.Goals as goal
 
 pub invariant_of-self : goal.invariant_of-self

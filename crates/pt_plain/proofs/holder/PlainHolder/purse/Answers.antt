@@ -1,4 +1,4 @@
-use Rattle.std.proofs.Common.{◌≡◌, ℕ, ◌≤◌, length, ap, sym, ◌∙◌, subst, arith}
+use Rattle.std.proofs.Common.{◌≤◌, length, ap, sym, ◌∙◌, subst, arith}
 use Rattle.pt_view.specs.Calls.{FitsSpace}
 use Rattle.pt_plain.specs.Owner.{Owned}
 use Rattle.pt_plain.proofs.Laws.{Laws}

@@ -5,7 +5,7 @@ use Rattle.pt_model.specs.Book.{IsLawful}
 use Rattle.pt_view.specs.declared.view.View.{View}
 use Rattle.pt_view.specs.Views.{IsAtRest, book_of}
 use Rattle.pt_rule.proofs.Laws.{books_are_lawful}
-use Rattle.pt_plain.specs.Owner.{Owned, whole_view}
+use Rattle.pt_plain.specs.Owner.{Owned}
 use Rattle.pt_plain.proofs.Owners.{live, shown, span_whole}
 use Rattle.pt_plain.proofs.holder.PlainHolder.range.Goals as goal
 

@@ -1,4 +1,4 @@
-use Rattle.std.proofs.Common.{◌≡◌, ◌≢◌, ℕ, true, false, ◌+◌, ◌<◌, List, length, refl, ap, sym, ◌∙◌, subst, arith, take, drop, ◌++◌}
+use Rattle.std.proofs.Common.{◌≡◌, ◌≢◌, ℕ, false, ◌+◌, ◌<◌, List, length, refl, ap, sym, ◌∙◌, subst, arith, take, drop, ◌++◌}
 use Rattle.std.specs.Prelude.{slice_set}
 use Rattle.pt_model.specs.Words.{tag}
 use Rattle.pt_view.specs.Calls.{FillsSpace, HasEveryFrame, IsTaken}

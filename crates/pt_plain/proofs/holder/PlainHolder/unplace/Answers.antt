@@ -1,6 +1,5 @@
 use Rattle.std.proofs.Common.{◌≡◌, ℕ, ◌+◌, ◌<◌, List, length, refl, ap, sym, ◌∙◌, subst, arith, take, drop, ◌++◌}
 use Rattle.std.specs.Prelude.{slice_set}
-use Rattle.pt_view.specs.declared.view.View.{View}
 use Rattle.pt_view.specs.Calls.{IsPrepared}
 use Rattle.pt_rule.specs.Tags.{held_word}
 use Rattle.pt_plain.specs.Owner.{Owned}

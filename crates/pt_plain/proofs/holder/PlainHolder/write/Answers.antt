@@ -1,9 +1,7 @@
-use Rattle.std.proofs.Common.{◌≡◌, ℕ, List, length, refl, ap, sym, ◌∙◌, subst, take, drop, ◌++◌}
+use Rattle.std.proofs.Common.{◌≡◌, ℕ, List, length, refl, sym, subst, take, drop, ◌++◌}
 use Rattle.std.specs.Prelude.{slice_index, slice_set}
 use Rattle.pt_model.specs.Words.{entry_place}
-use Rattle.pt_view.specs.declared.view.View.{View}
-use Rattle.pt_view.specs.Pieces.{word_of}
-use Rattle.pt_view.specs.Calls.{IsWritten, MayPut, MayWrite}
+use Rattle.pt_view.specs.Calls.{MayWrite}
 use Rattle.pt_plain.specs.Owner.{Owned}
 use Rattle.pt_plain.proofs.EntryCalls as entry
 use Rattle.pt_plain.proofs.Laws.{Laws}

@@ -1,5 +1,5 @@
 use Rattle.std.proofs.Common.{◌≡◌, ℕ, true, ◌+◌, ◌<◌, List, [], ◌∷◌, ◌++◌, length, take, drop, refl, sym, ◌∙◌, subst, arith, length-set}
-use Rattle.std.specs.Prelude.{Option, None, slice_index, slice_set}
+use Rattle.std.specs.Prelude.{Option, slice_index, slice_set}
 use Rattle.pt_model.specs.Words.{word_count}
 use Rattle.pt_rule.specs.Opening.{IsNew}
 use Rattle.pt_plain.specs.Chains.{IsKept}
