@@ -5,7 +5,7 @@ use Rattle.pt_model.specs.declared.position.Position.{Position}
 use Rattle.pt_model.specs.Sets.{IsAmong}
 use Rattle.pt_model.specs.Tables.{is_spine, levels_between, spine_position, starting_top}
 use Rattle.pt_model.proofs.Positions.{among_append, among_left, among_right, levels_among}
-use Rattle.pt_rule.proofs.CallsRooted.{spine_back}
+use Rattle.pt_rule.proofs.TablesAdded.{spine_back}
 use Rattle.pt_plain.specs.Owner.{known_in}
 
 pub known_table : (l : ℕ) (tables : List Position) (top : ℕ) (p : Position) → IsAmong tables p → IsAmong (known_in l tables top) p

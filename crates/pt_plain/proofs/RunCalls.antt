@@ -17,7 +17,7 @@ use Rattle.pt_view.specs.Pieces.{add_piece, add_pieces, pieces_by, number_of, wo
 use Rattle.pt_view.specs.Views.{SamePurse, SameRange}
 use Rattle.pt_view.specs.Calls.{ArePieces, IsWritten, IsWrittenRun, MayPut, MayWriteRun, lowest, off_spine, pieces_at, top_over}
 use Rattle.pt_view.proofs.Pieces.{one_here}
-use Rattle.pt_rule.proofs.WriteKept.{pieces_with}
+use Rattle.pt_rule.proofs.PieceFacts.{pieces_with}
 use Rattle.pt_plain.specs.Owner.{Fields, IsOwner, set_run, span_view, whole_view}
 use Rattle.pt_plain.proofs.EntryCalls as entry
 use Rattle.pt_plain.proofs.Laws.{Laws}

@@ -9,7 +9,7 @@ use Rattle.pt_view.specs.Pieces.{table_of, number_of}
 use Rattle.pt_view.specs.Calls.{drop_at, pieces_at, IsCleared, MayDrop}
 use Rattle.pt_rule.specs.Kinds.{ClearTells, cleared}
 use Rattle.pt_view.proofs.Pieces.{one_here}
-use Rattle.pt_rule.proofs.Dropped.{one_member}
+use Rattle.pt_rule.proofs.ListsWithout.{one_member}
 use Rattle.pt_rule.proofs.CallsWritten.{one_entry_at}
 
 module _ (f : Layout) (v : View) (number found : ℕ) (x : Piece) (may : MayDrop f v number x) (told : ClearTells f v x found) where

@@ -11,6 +11,7 @@ use Rattle.pt_model.specs.Sets.{AddsPositions, IsAmong, SamePositions}
 use Rattle.pt_view.specs.Lists.{SameFrames}
 use Rattle.pt_view.specs.Views.{SameHistory, SamePurse}
 use Rattle.pt_view.specs.Calls.{Rooted}
+use Rattle.pt_rule.proofs.TablesAdded.{spine_back}
 use Rattle.pt_rule.specs.Kinds.{RootTells, after, load_root}
 use Rattle.pt_rule.proofs.RootKept.{spine_is}
 
@@ -32,12 +33,6 @@ one_more q ps p = (
   λ h. among_cases p q ps h,
   λ h. ⊎_elim (λ (e : p ≡ q). subst (IsAmong (q ∷ ps)) (sym e) (among_here q ps)) (λ (old : IsAmong ps p). among_more p q ps old) h,
 )
-
--- a position of the spine is one of its levels'
-pub spine_back : (levels : ℕ) (p : Position) → IsTrue (is_spine levels p) → (starting_top levels ≤ p.level) × (p ≡ spine_position p.level)
-spine_back levels p s =
-    let b : (nat_le (starting_top levels) p.level ≡ true) × ((p.base == 0) ≡ true) = and_parts (nat_le (starting_top levels) p.level) _ s in
-    (leb-true (starting_top levels) p.level b.0, same_position p (spine_position p.level) refl (eqb-true p.base 0 b.1))
 
 -- the spine's positions from the starting top to a level join the list
 pub spine_adds : (levels level : ℕ) (old : List Position) →

@@ -22,7 +22,7 @@ use Rattle.pt_view.specs.Calls.{begins_under, entry_first, entry_end, is_under, 
 use Rattle.pt_rule.specs.Kinds.{EntryTells, zero as tells_zero, own, pointer, IsLowestIn, May, MayCut, after, deeper, met, unlink, unlinked, unplace}
 use Rattle.pt_rule.proofs.TreeFacts.{entry_of_piece, frame_back, is_address}
 use Rattle.pt_rule.proofs.LookKept.{after_some, entered, entry_position}
-use Rattle.pt_rule.proofs.Dropped.{without_is}
+use Rattle.pt_rule.proofs.ListsWithout.{without_is}
 
 -- A path with one node more: its last node, and the rest.
 

@@ -19,7 +19,7 @@ use Rattle.pt_view.specs.Calls.{IsEntryAt, IsWritten, MayPut}
 use Rattle.pt_rule.specs.Kinds.{written}
 use Rattle.pt_model.proofs.Quotients.{quotient, whole}
 use Rattle.pt_view.proofs.Pieces.{one_here}
-use Rattle.pt_rule.proofs.PathOver.{block_is, piece_within}
+use Rattle.pt_rule.proofs.PathOverBlock.{block_is, piece_within}
 
 -- an entry of a path's last table is at one position
 pub one_entry_at : (f : Layout) (v : View) (p q : Position) (i j : ℕ) → IsEntryAt f v p i → IsEntryAt f v q j → p ≡ q

@@ -29,7 +29,7 @@ use Rattle.pt_rule.proofs.PositionFacts.{child_of_parent, slot_below}
 use Rattle.pt_rule.proofs.PieceFacts.{no_words}
 use Rattle.pt_rule.proofs.TreeFacts.{is_position, linked_there, no_words_of, one_frame}
 use Rattle.pt_rule.proofs.FindsKept.{piece_kept, table_kept}
-use Rattle.pt_rule.proofs.Dropped.{all_filtered, entry_cases, member_counts, member_word, none_left, pieces_left, words_left, order_left}
+use Rattle.pt_rule.proofs.ListsWithout.{all_filtered, entry_cases, member_counts, member_word, none_left, pieces_left, words_left, order_left}
 
 module _ (f : Layout) (n l : ℕ) (good : IsLayout f) (words : List ℕ) (views : List View) (r : Lawful f n l words views) (id : ℕ) (v : View) (at : get_elem? views id ≡ some v) (live : 0 < v.count) (frame number : ℕ) (x : Piece) (down : IsLowestIn v frame) (may : MayDrop f v number x) where
   abbrev w : View

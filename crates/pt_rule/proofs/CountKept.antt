@@ -26,7 +26,7 @@ use Rattle.pt_rule.specs.Totals.{total, is_prepared, prepares}
 use Rattle.pt_rule.specs.Tags.{free, held, placed, held_word, is_held, is_placed}
 use Rattle.pt_rule.specs.Linked.{IsLinked, IsLinkedAt, is_in_tree}
 use Rattle.pt_rule.specs.Lawful.{Lawful, IsOwnTable}
-use Rattle.pt_rule.proofs.Few.{distinct_few, length_sum, sum_below}
+use Rattle.pt_rule.proofs.FewFrames.{distinct_few, length_sum, sum_below}
 use Rattle.pt_model.proofs.Positions.{bit_le, bit_true, bit_false, is_same_self, same_cases, places_append, among_all, all_among, same_position, levels_among, sorted_once, sorted_levels}
 use Rattle.pt_rule.proofs.PathTables.{all_levels}
 use Rattle.pt_rule.proofs.TreeFacts.{level_low, one_frame, spine_there, table_there, whole_alone, whole_tree}

@@ -15,7 +15,7 @@ use Rattle.pt_model.proofs.Positions.{bit_true}
 use Rattle.pt_view.proofs.Members.{in_cases, in_here, in_more, times_else, times_here}
 use Rattle.pt_rule.proofs.PartsKept.{SameLinks, bridged_to, prepared_moved, prepares_here, chained_else}
 use Rattle.pt_rule.proofs.TagFacts.{IsHeldBy, held_by, held_unplaced, unplaced_unlinked}
-use Rattle.pt_rule.proofs.TagKept.{tag_links, tag_kept}
+use Rattle.pt_rule.proofs.TagWritten.{tag_links, tag_kept}
 use Rattle.pt_rule.proofs.SpansFacts.{whole_only}
 
 -- what is left of a list without a number

@@ -35,7 +35,7 @@ use Rattle.pt_rule.proofs.TotalsKept.{at_inside, each_set, total_at, total_set, 
 use Rattle.pt_rule.proofs.PieceFacts.{ends_in_block}
 use Rattle.pt_rule.proofs.SpansFacts.{covers_none}
 use Rattle.pt_rule.specs.Cuts.{MayJoin, joined, seam_of}
-use Rattle.pt_rule.proofs.Regroup.{Regrouped, regrouped}
+use Rattle.pt_rule.proofs.RegroupedViews.{Regrouped, regrouped}
 use Rattle.pt_rule.proofs.CutLists.{covers_by, parts_cover, some_alike}
 
 words_append : (f : Layout) (p : Position) (i : ℕ) (xs ys : List Piece) → words_at f p i (xs ++ ys) ≡ words_at f p i xs + words_at f p i ys

@@ -12,12 +12,12 @@ use Rattle.pt_rule.proofs.CallsMeet as calls
 use Rattle.pt_rule.proofs.CountKept as frames
 use Rattle.pt_rule.proofs.CutPaths as fronts
 use Rattle.pt_rule.proofs.MayNote as noted
-use Rattle.pt_rule.proofs.Holding as holding
+use Rattle.pt_rule.proofs.LiveViews as holding
 use Rattle.pt_rule.proofs.JoinKept as parts
-use Rattle.pt_rule.proofs.Kept as steps
+use Rattle.pt_rule.proofs.StepsKept as steps
 use Rattle.pt_rule.proofs.OpeningKept as opening
 use Rattle.pt_rule.proofs.ReadWhole as read
-use Rattle.pt_rule.proofs.Resting as books
+use Rattle.pt_rule.proofs.RestingBook as books
 use Rattle.pt_rule.proofs.SplitKept as halves
 use Rattle.pt_rule.proofs.WalkUnion as walk
 

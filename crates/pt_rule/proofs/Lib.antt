@@ -1,71 +1,80 @@
-pub mod TotalsKept
-pub mod PartsKept
-pub mod TagFacts
-pub mod SpansFacts
-pub mod Few
-pub mod NotesKept
-pub mod TagKept
-pub mod TakeKept
-pub mod PlaceKept
-pub mod UnplaceKept
-pub mod FreeKept
-pub mod MarkKept
-pub mod AloneKept
-pub mod PositionFacts
-pub mod PieceFacts
-pub mod TreeFacts
-pub mod FindsKept
-pub mod RootKept
-pub mod TablesAdded
-pub mod LookKept
-pub mod PathTables
-pub mod PathOver
-pub mod Ordered
-pub mod PiecesApart
-pub mod Resting
-pub mod ReadTables
-pub mod ReadPiece
-pub mod ReadPieces
-pub mod ReadWhole
-pub mod WriteFacts
-pub mod WriteKept
-pub mod Dropped
-pub mod ClearKept
-pub mod UnlinkFacts
-pub mod UnlinkKept
-pub mod CallsWritten
-pub mod CallsTags
-pub mod CountKept
-pub mod States
-pub mod Spoiled
-pub mod ReadStates
-pub mod FirstSteps
-pub mod TakenAway
-pub mod SharedState
-pub mod OpeningKept
-pub mod CutPaths
-pub mod MayNote
-pub mod Holding
-pub mod Regroup
-pub mod CutLists
-pub mod HalfBook
-pub mod SplitKept
-pub mod JoinKept
-pub mod InstallMet
-pub mod InstallWon
-pub mod InstallKept
-pub mod BridgeKept
-pub mod RaiseWon
-pub mod RaiseKept
-pub mod CallsRooted
-pub mod CallsWent
-pub mod CallsInstalled
-pub mod CallsCleared
-pub mod CallsUnlinked
-pub mod CallsGrown
-pub mod CallsMeet
-pub mod LoneGrowth
-pub mod GrowthStates
-pub mod Kept
-pub mod WalkUnion
+-- Facts for other crates: the laws, and what the rule says of tags, of tables added to a book and of pieces.
 pub mod Laws
+pub mod TagFacts
+pub mod TablesAdded
+pub mod PieceFacts
+-- Numbers, lists and positions: totals over views, a few frames, spans, positions and the pieces over them.
+mod TotalsKept
+mod FewFrames
+mod SpansFacts
+mod PositionFacts
+mod ListsWithout
+mod PathTables
+mod OrderedPieces
+-- The tree: the frames at its positions, and the path above a block.
+mod TreeFacts
+mod PathOverBlock
+mod PiecesApart
+-- What keeps the rule part by part, where one view or one tag changes.
+mod PartsKept
+mod NotesKept
+mod MayNote
+mod FindsKept
+mod TagWritten
+mod AloneKept
+-- The law of each kind of step: first those of tags, then loads, then stores and exchanges of entries, then of the root.
+mod TakeKept
+mod PlaceKept
+mod UnplaceKept
+mod FreeKept
+mod MarkKept
+mod RootKept
+mod LookKept
+mod InstallMet
+mod InstallWon
+mod InstallKept
+mod WriteFacts
+mod WriteKept
+mod ClearKept
+mod UnlinkFacts
+mod UnlinkKept
+mod BridgeKept
+mod RaiseWon
+mod RaiseKept
+mod StepsKept
+mod OpeningKept
+-- What holds of live views, and what is read from the words.
+mod CountKept
+mod RestingBook
+mod ReadTables
+mod ReadPiece
+mod ReadPieces
+mod ReadWhole
+mod WalkUnion
+mod LiveViews
+-- Cuts: a path that is cut, a view cut in two, and two views as one.
+mod CutPaths
+mod RegroupedViews
+mod CutLists
+mod HalfBook
+mod SplitKept
+mod JoinKept
+-- Calls: what the steps are to a holder.
+mod CallsRooted
+mod CallsWent
+mod CallsInstalled
+mod CallsTags
+mod CallsWritten
+mod CallsCleared
+mod CallsUnlinked
+mod CallsGrown
+mod CallsMeet
+mod LoneGrowth
+-- Small states by evaluation: lawful ones, steps between them, and spoiled ones.
+mod StateMapped
+mod StateShared
+mod StateSteps
+mod StateCleared
+mod StateGrowth
+mod StateRead
+mod StateSpoiled

@@ -18,7 +18,7 @@ use Rattle.pt_model.proofs.Positions.{bit_true}
 use Rattle.pt_view.proofs.Members.{in_cases, times_append, times_here}
 use Rattle.pt_rule.proofs.PartsKept.{SameLinks, bridged_to, prepared_moved, prepares_here, chained_else, busy_set}
 use Rattle.pt_rule.proofs.TagFacts.{IsHeldBy, held_by, held_is, held_unplaced, held_nonzero, tag_still, unplaced_unlinked}
-use Rattle.pt_rule.proofs.TagKept.{tag_links, tag_kept}
+use Rattle.pt_rule.proofs.TagWritten.{tag_links, tag_kept}
 
 not_here : (g x : ℕ) (xs : List ℕ) → times g (x ∷ xs) ≡ 0 → x ≢ g
 not_here g x xs none e = let t = times_here g xs in let z : times g (g ∷ xs) ≡ 0 = subst (λ (y : ℕ). times g (y ∷ xs) ≡ 0) e none in omega arith

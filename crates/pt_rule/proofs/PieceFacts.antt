@@ -1,8 +1,9 @@
 -- Pieces: where a piece stands, the pages under it, and the pieces and words at an entry.
-use Rattle.std.proofs.Common.{◌≡◌, ◌≢◌, ℕ, ◌+◌, ◌-◌, ◌*◌, ◌/◌, ◌^◌, ◌<◌, ◌≤◌, List, [], ◌∷◌, refl, ap, sym, ◌∙◌, arith}
-use Rattle.std.specs.Prelude.{◌&&◌, ◌==◌}
+use Rattle.std.proofs.Common.{◌≡◌, ◌≢◌, ℕ, ◌+◌, ◌-◌, ◌*◌, ◌/◌, ◌^◌, ◌<◌, ◌≤◌, List, [], ◌∷◌, refl, ap, sym, ◌∙◌, arith, true, false, ⊎_elim}
+use Rattle.std.specs.Prelude.{nat_le, ◌&&◌, ◌==◌}
 use Rattle.std.specs.List.{AllByRecursion}
 use Rattle.std.proofs.lemmas.Nat.{shr_split, shl-shr, pow-add, pow_pos, mul-le}
+use Rattle.std.proofs.lemmas.Bool.{cases_Bool}
 use mathlib.Core.Logic.{dite}
 use native.Mathlib.Decide.{dec_le}
 use Rattle.pt_model.proofs.Positions.{bit_le}
@@ -14,12 +15,10 @@ use Rattle.pt_format.specs.Words.{MayBeLeaf, IsUnder}
 use Rattle.pt_format.specs.Laws.{IsLayout, WordsDiffer}
 use Rattle.pt_view.specs.declared.view.View.{View}
 use Rattle.pt_view.specs.declared.view.Piece.{Piece}
-use Rattle.pt_view.specs.Pieces.{first_of, table_of, number_of, level_of, word_of, words_of}
+use Rattle.pt_view.specs.Pieces.{add_piece, first_of, table_of, number_of, level_of, word_of, words_of}
 use Rattle.pt_view.specs.Calls.{entry_first, pieces_at}
 use Rattle.pt_rule.specs.Totals.{words_at}
 use Rattle.pt_rule.specs.Lawful.{IsOwnPiece}
-
--- Where a piece stands.
 
 -- The pages under a piece that a view may have.
 module _ (f : Layout) (good : IsLayout f) (v : View) (x : Piece) (own : IsOwnPiece f v x) where
@@ -118,3 +117,10 @@ module _ (f : Layout) (p : Position) (i : ℕ) where
         here = one;
         word = ap (λ k. k * word_of f x + words_at f p i xs) one ∙ omega (arith, rest);
       })
+
+-- one piece more in a list
+pub pieces_with : (f : Layout) (p : Position) (i : ℕ) (ys : List Piece) (x : Piece) → pieces_at f p i (add_piece f ys x) ≡ pieces_at f p i (x ∷ []) + pieces_at f p i ys
+pieces_with f p i [] x = omega arith
+pieces_with f p i (y ∷ ys) x = ⊎_elim
+    (λ (e : nat_le (first_of f y) (first_of f x) ≡ true). rw e (let rest = pieces_with f p i ys x in omega arith))
+    (λ (e : nat_le (first_of f y) (first_of f x) ≡ false). rw e (omega arith)) (cases_Bool (nat_le (first_of f y) (first_of f x)))

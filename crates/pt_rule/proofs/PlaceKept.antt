@@ -19,7 +19,7 @@ use Rattle.pt_model.proofs.Positions.{bit_false, bit_true}
 use Rattle.pt_view.proofs.Members.{in_here, times_else, times_here}
 use Rattle.pt_rule.proofs.PartsKept.{chained_else, busy_set}
 use Rattle.pt_rule.proofs.TagFacts.{IsHeldBy, held_by, held_unplaced, placed_is, placed_unheld, placed_some, tag_still, unplaced_unlinked, prepared_unlinked, no_bridge}
-use Rattle.pt_rule.proofs.TagKept.{tag_kept}
+use Rattle.pt_rule.proofs.TagWritten.{tag_kept}
 use Rattle.pt_rule.proofs.TreeFacts.{placed_back}
 
 module _ (f : Layout) (n l : ℕ) (good : IsLayout f) where

@@ -26,7 +26,7 @@ use Rattle.pt_rule.specs.Linked.{IsLinkedAt, is_in_tree}
 use Rattle.pt_rule.specs.Lawful.{Lawful, IsOwnPiece}
 use Rattle.pt_rule.specs.WholeView.{is_linked_in, piece_in, pieces_in, pieces_with_frame, prepared_frame, with_piece}
 use Rattle.pt_rule.proofs.TreeFacts.{an_empty, a_piece, a_child, entry_is, entry_of_piece, is_address, is_position, linked_there, one_frame}
-use Rattle.pt_rule.proofs.Ordered.{all_with_piece, either_has}
+use Rattle.pt_rule.proofs.OrderedPieces.{all_with_piece, either_has}
 use Rattle.pt_rule.proofs.PiecesApart.{Spaced, last_of, spaced, stands}
 use Rattle.pt_rule.proofs.ReadPiece.{piece_read, pointer_read, zero_read}
 use Rattle.pt_rule.proofs.ReadTables.{is_linked, reads_linked}

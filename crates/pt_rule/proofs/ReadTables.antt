@@ -20,7 +20,7 @@ use Rattle.pt_rule.specs.Linked.{IsLinked, IsLinkedAt, is_in_tree}
 use Rattle.pt_rule.specs.Lawful.{Lawful, IsOwnTable}
 use Rattle.pt_rule.specs.WholeView.{is_frame, is_linked_in, is_table_in, prepared_frame, tables_in}
 use Rattle.pt_model.proofs.Positions.{bit_false, false_bit, among_all, added_kept, added_new, added_cases, sorted_add, same_members}
-use Rattle.pt_rule.proofs.Ordered.{either_has}
+use Rattle.pt_rule.proofs.OrderedPieces.{either_has}
 use Rattle.pt_rule.proofs.TreeFacts.{table_there}
 
 -- The positions that are read.

@@ -34,7 +34,7 @@ use Rattle.pt_view.proofs.Members.{in_here, times_append}
 use Rattle.pt_rule.proofs.PartsKept.{book_same, purse_within}
 use Rattle.pt_rule.proofs.PieceFacts.{ends_in_block}
 use Rattle.pt_rule.specs.Cuts.{MaySplit, is_near, left_part, right_part, table_in}
-use Rattle.pt_rule.proofs.Regroup.{Regrouped, regrouped}
+use Rattle.pt_rule.proofs.RegroupedViews.{Regrouped, regrouped}
 use Rattle.pt_rule.proofs.HalfBook.{half, half_book}
 use Rattle.pt_rule.proofs.CutLists.{all_sub, chained_back, chained_front, covers_by, each_snoc, parts_cover, pieces_sum, seam_end, some_alike, total_snoc, two_totals, words_sum}
 

@@ -1,15 +1,13 @@
--- A position added to a list in order.
-use Rattle.std.proofs.Common.{Bool, ◌≡◌, ℕ, ◌⊎◌, List, ap, sym, subst, true, false, inl, ⊎_elim}
-use Rattle.std.specs.Prelude.{if◌then◌else◌}
+-- Positions of the spine, and a position added to the tables of a book unless it is of the spine.
+use Rattle.std.proofs.Common.{Bool, ◌≡◌, ℕ, ◌⊎◌, ◌≤◌, List, refl, ap, sym, subst, true, false, inl, ⊎_elim}
+use Rattle.std.specs.Prelude.{IsTrue, nat_le, ◌==◌, if◌then◌else◌}
 use Rattle.std.specs.List.{AllByRecursion}
-use Rattle.std.proofs.lemmas.Bool.{cases_Bool}
+use Rattle.std.proofs.lemmas.Bool.{and_parts, cases_Bool, eqb-true, leb-true}
 use Rattle.pt_model.specs.declared.position.Position.{Position}
-use Rattle.pt_model.specs.Tables.{is_spine, add_position}
-use Rattle.pt_model.proofs.Positions.{added_kept, added_new, added_cases, all_added, sorted_add}
+use Rattle.pt_model.specs.Tables.{add_position, is_spine, spine_position, starting_top}
+use Rattle.pt_model.proofs.Positions.{added_kept, added_new, added_cases, all_added, same_position, sorted_add}
 use Rattle.pt_model.specs.Sets.{IsAmong, IsSorted}
 use Rattle.pt_view.specs.Calls.{with_table}
-
--- what stands in a list with a position added
 
 -- A position that is added unless it is of the spine.
 module _ (levels : ℕ) (ps : List Position) (q : Position) where
@@ -38,3 +36,9 @@ module _ (levels : ℕ) (ps : List Position) (q : Position) where
 
   pub with_order : IsSorted ps → IsSorted (with_table levels ps q)
   with_order s = with_either IsSorted s (λ e. sorted_add ps q s)
+
+-- a position of the spine is one of its levels'
+pub spine_back : (levels : ℕ) (p : Position) → IsTrue (is_spine levels p) → (starting_top levels ≤ p.level) × (p ≡ spine_position p.level)
+spine_back levels p s =
+    let b : (nat_le (starting_top levels) p.level ≡ true) × ((p.base == 0) ≡ true) = and_parts (nat_le (starting_top levels) p.level) _ s in
+    (leb-true (starting_top levels) p.level b.0, same_position p (spine_position p.level) refl (eqb-true p.base 0 b.1))

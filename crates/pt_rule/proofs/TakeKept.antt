@@ -22,8 +22,8 @@ use Rattle.pt_view.proofs.Members.{in_cases, times_else, times_here}
 use Rattle.pt_rule.proofs.PartsKept.{SameLinks, bridged_to, prepared_moved, prepares_here, chained_else, busy_set}
 use Rattle.pt_rule.proofs.TagFacts.{IsNowhere, held_is, held_unplaced, held_some, held_nonzero, tag_still, unplaced_unlinked, free_nowhere}
 use Rattle.pt_rule.proofs.NotesKept.{notes_at, path_noted}
-use Rattle.pt_rule.proofs.TagKept.{tag_links, tag_kept}
-use Rattle.pt_rule.proofs.Few.{distinct_few}
+use Rattle.pt_rule.proofs.TagWritten.{tag_links, tag_kept}
+use Rattle.pt_rule.proofs.FewFrames.{distinct_few}
 
 module _ (f : Layout) (n l : ℕ) where
   -- the frame was free: it is the first of the purse

@@ -35,7 +35,7 @@ use Rattle.pt_rule.proofs.SpansFacts.{spans_apart}
 use Rattle.pt_rule.proofs.PositionFacts.{child_quotient, end_of_child, end_in_parent}
 use Rattle.pt_rule.proofs.PieceFacts.{ends_in_block, some_at}
 use Rattle.pt_rule.proofs.PathTables.{all_levels}
-use Rattle.pt_rule.proofs.PathOver.{next_multiple, same_over}
+use Rattle.pt_rule.proofs.PathOverBlock.{next_multiple, same_over}
 use Rattle.pt_rule.proofs.TreeFacts.{IsThere, all_both, all_one_of, is_position, linked_there, live_piece, live_table, no_words_of, there_position}
 
 -- Paths without their last node.

@@ -36,7 +36,7 @@ use Rattle.pt_rule.proofs.PositionFacts.{child_of_parent, parent_of_child, slot_
 use Rattle.pt_rule.proofs.TagFacts.{no_bridge}
 use Rattle.pt_rule.proofs.TreeFacts.{all_both, linked_there, level_low, no_words_of, one_frame, pointer_at, table_there, there_position}
 use Rattle.pt_rule.proofs.FindsKept.{table_kept, tree_found}
-use Rattle.pt_rule.proofs.Dropped.{all_filtered, entry_cases, one_lost, order_without, without_is}
+use Rattle.pt_rule.proofs.ListsWithout.{all_filtered, entry_cases, one_lost, order_without, without_is}
 use Rattle.pt_rule.proofs.UnlinkFacts.{begins_above, descends_above, higher_above, over_linked, child_linked, place, levels_are, child_is_there, own, meets_mine, not_theirs, not_parent, no_home, pieces_own, zeros, not_needed}
 
 module _ (f : Layout) (n l : ℕ) (good : IsLayout f) (words : List ℕ) (views : List View) (r : Lawful f n l words views) (id : ℕ) (v : View) (at : get_elem? views id ≡ some v) (live : 0 < v.count) (frame number : ℕ) (may : MayCut f v frame number) where

@@ -15,7 +15,7 @@ use Rattle.pt_model.proofs.Positions.{bit_false, bit_true}
 use Rattle.pt_view.proofs.Members.{times_else, times_here}
 use Rattle.pt_rule.proofs.PartsKept.{chained_else, busy_set}
 use Rattle.pt_rule.proofs.TagFacts.{IsPreparedBy, prepared_by, held_is, held_unplaced, held_nonzero, placed_unheld, tag_still, unplaced_unlinked, prepared_unlinked, no_bridge}
-use Rattle.pt_rule.proofs.TagKept.{tag_kept}
+use Rattle.pt_rule.proofs.TagWritten.{tag_kept}
 
 module _ (f : Layout) (n l : ℕ) where
   pub unplace_kept : (g : ℕ) → Keeps f n l (unplace g)

@@ -29,7 +29,7 @@ use Rattle.pt_rule.specs.Lawful.{Lawful, HasPath, IsOnPath, IsOwnTable, BeginsOn
 use Rattle.pt_rule.specs.Kinds.{IsLowestIn}
 use Rattle.pt_rule.proofs.TotalsKept.{total_at, total_two, total_some}
 use Rattle.pt_rule.proofs.TreeFacts.{an_empty, a_piece, a_child, IsOnePiece, is_position, linked_there, level_low, live_table, one_piece, entry_is, own_view, covers_page, level_of_piece}
-use Rattle.pt_rule.proofs.PathOver.{IsAligned, LiesOver, lies_over, ends_under}
+use Rattle.pt_rule.proofs.PathOverBlock.{IsAligned, LiesOver, lies_over, ends_under}
 
 -- Paths.
 

@@ -24,7 +24,8 @@ use Rattle.pt_rule.specs.Linked.{IsLinked, IsLinkedAt, is_in_tree}
 use Rattle.pt_rule.specs.Lawful.{Lawful, EntriesPart, HasBook, IsOnPath, IsOwnPiece, IsOwnTable, slot_of, has_child}
 use Rattle.pt_rule.specs.Kinds.{Keeps, IsLowestIn, WriteTells, write, written}
 use Rattle.pt_model.proofs.Places.{entry_same, entry_else, tag_after_entry, root_after_entry, length_kept}
-use Rattle.pt_rule.proofs.Ordered.{all_with_piece, piece_in_order}
+use Rattle.pt_rule.proofs.PieceFacts.{pieces_with}
+use Rattle.pt_rule.proofs.OrderedPieces.{all_with_piece, piece_in_order}
 use Rattle.pt_rule.proofs.TotalsKept.{total_same, total_set, each_set}
 use Rattle.pt_model.proofs.Positions.{adds_again, adds_cases, adds_kept, adds_new, all_among, among_all, among_filtered, among_passes, bit_le, sorted_adds}
 use Rattle.pt_view.proofs.Members.{all_append, all_map}
@@ -35,16 +36,10 @@ use Rattle.pt_rule.proofs.TreeFacts.{is_position, linked_there, one_frame, table
 use Rattle.pt_rule.proofs.FindsKept.{piece_kept, tree_found}
 use Rattle.pt_rule.proofs.PathTables.{all_levels}
 use Rattle.pt_model.proofs.Tops.{above_top, reaches_top, table_mono}
-use Rattle.pt_rule.proofs.PathOver.{same_over}
+use Rattle.pt_rule.proofs.PathOverBlock.{same_over}
 use Rattle.pt_rule.proofs.WriteFacts.{ReachesOver, path_has, linked_here, no_child, no_piece, was_zero, no_word, on_path, reaches}
 
 -- A piece put among others.
-
-pub pieces_with : (f : Layout) (p : Position) (i : ℕ) (ys : List Piece) (x : Piece) → pieces_at f p i (add_piece f ys x) ≡ pieces_at f p i (x ∷ []) + pieces_at f p i ys
-pieces_with f p i [] x = omega arith
-pieces_with f p i (y ∷ ys) x = ⊎_elim
-    (λ (e : nat_le (first_of f y) (first_of f x) ≡ true). rw e (let rest = pieces_with f p i ys x in omega arith))
-    (λ (e : nat_le (first_of f y) (first_of f x) ≡ false). rw e (omega arith)) (cases_Bool (nat_le (first_of f y) (first_of f x)))
 
 pub words_with : (f : Layout) (p : Position) (i : ℕ) (ys : List Piece) (x : Piece) →
     words_at f p i (add_piece f ys x) ≡ pieces_at f p i (x ∷ []) * word_of f x + words_at f p i ys

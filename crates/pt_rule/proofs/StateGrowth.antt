@@ -12,8 +12,8 @@ use Rattle.pt_view.specs.Calls.{MayGrow}
 use Rattle.pt_rule.specs.Linked.{IsLinkedAt}
 use Rattle.pt_rule.specs.Lawful.{FramesPart, ParentsPart, RootPart}
 use Rattle.pt_rule.specs.Kinds.{May, bridge, look, place, raise, unbridge, unplace}
-use Rattle.pt_rule.proofs.States.{small, at, zeros, mapped_words, mapped_view}
-use Rattle.pt_rule.proofs.FirstSteps.{State, step, steps}
+use Rattle.pt_rule.proofs.StateMapped.{small, at, zeros, mapped_words, mapped_view}
+use Rattle.pt_rule.proofs.StateSteps.{State, step, steps}
 
 differ : (a b : ℕ) → (a == b) ≡ false → a ≡ b → ⊥
 differ a b n e = let d : true ≡ false = sym (eq-eqb a b e) ∙ n in cc

@@ -4,7 +4,7 @@ use Rattle.pt_model.specs.declared.block.Prot.TheVariants.{Read}
 use Rattle.pt_model.specs.Layout.{Layout}
 use Rattle.pt_view.specs.declared.view.Piece.{Piece}
 use Rattle.pt_rule.specs.WholeView.{piece_in, pieces_in, prepared_frame, tables_in}
-use Rattle.pt_rule.proofs.States.{small, at, mapped_view, mapped_words, new_view, new_words}
+use Rattle.pt_rule.proofs.StateMapped.{small, at, mapped_view, mapped_words, new_view, new_words}
 
 -- a new space has no table off the spine and no piece
 pub none_new : (tables_in 2 None new_words 4 ≡ new_view.tables) × (pieces_in small 4 None new_words 4 ≡ new_view.pieces)

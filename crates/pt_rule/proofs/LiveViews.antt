@@ -22,12 +22,12 @@ use Rattle.pt_rule.specs.Lawful.{Lawful, IsOnPath}
 use Rattle.pt_rule.specs.Kinds.{retrace}
 use Rattle.pt_rule.proofs.TotalsKept.{total_at, at_inside}
 use Rattle.pt_model.proofs.Positions.{bit_le, bit_true}
-use Rattle.pt_rule.proofs.Few.{distinct_few}
+use Rattle.pt_rule.proofs.FewFrames.{distinct_few}
 use Rattle.pt_rule.proofs.TreeFacts.{is_position}
 use Rattle.pt_rule.proofs.TagFacts.{held_unplaced}
 use Rattle.pt_rule.proofs.SpansFacts.{page_within}
 use Rattle.pt_rule.proofs.CountKept.{counted}
-use Rattle.pt_rule.proofs.Resting.{resting}
+use Rattle.pt_rule.proofs.RestingBook.{resting}
 use Rattle.pt_rule.proofs.CutPaths.{cuts}
 use Rattle.pt_rule.specs.Holds.{Holds}
 

@@ -19,7 +19,7 @@ use Rattle.pt_rule.specs.Linked.{IsLinked, IsLinkedAt, is_in_tree}
 use Rattle.pt_rule.specs.Lawful.{Lawful, IsOwnPiece, slot_of, has_child}
 use Rattle.pt_model.proofs.Positions.{among_cases, is_same_true, same_position, true_bit}
 use Rattle.pt_view.specs.Views.{spent}
-use Rattle.pt_rule.proofs.States.{small, at, zeros, four, tree_cases}
+use Rattle.pt_rule.proofs.StateMapped.{small, at, zeros, four, tree_cases}
 
 abbrev pub two_pages : Block
 two_pages = record { first = 4; log2 = 1; out = 8; prot = Read }

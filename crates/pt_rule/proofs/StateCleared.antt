@@ -13,9 +13,9 @@ use Rattle.pt_rule.specs.Kinds.{MayCut, look, clear, unlink, unplace}
 use Rattle.pt_model.proofs.Positions.{among_cases, among_here}
 use Rattle.pt_view.proofs.Pieces.{one_here}
 use Rattle.pt_rule.proofs.LookKept.{entry_position}
-use Rattle.pt_rule.proofs.States.{small, at, mapped_page, new_view, new_words}
-use Rattle.pt_rule.proofs.SharedState.{right}
-use Rattle.pt_rule.proofs.FirstSteps.{State, step, down, mapped}
+use Rattle.pt_rule.proofs.StateMapped.{small, at, mapped_page, new_view, new_words}
+use Rattle.pt_rule.proofs.StateShared.{right}
+use Rattle.pt_rule.proofs.StateSteps.{State, step, down, mapped}
 
 differ : (a b : ℕ) → (a == b) ≡ false → a ≡ b → ⊥
 differ a b n e = false≢true (sym n ∙ eq-eqb a b e)

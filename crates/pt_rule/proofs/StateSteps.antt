@@ -9,7 +9,7 @@ use Rattle.pt_model.specs.Sets.{IsAmong}
 use Rattle.pt_view.specs.Calls.{MayPut, MayInstall, is_under}
 use Rattle.pt_rule.specs.Kinds.{Kind, take, place, unplace, free, mark, load_root, look, install, write, place_of, put, after}
 use Rattle.pt_model.proofs.Positions.{among_cases}
-use Rattle.pt_rule.proofs.States.{small, at, zeros, mapped_page, mapped_words, mapped_view, new_view, new_words}
+use Rattle.pt_rule.proofs.StateMapped.{small, at, zeros, mapped_page, mapped_words, mapped_view, new_view, new_words}
 
 abbrev pub State : Type 0
 State = List ℕ × View

@@ -24,7 +24,7 @@ use Rattle.pt_rule.specs.Lawful.{Lawful, HasBook, IsOwnPiece, IsOwnTable}
 use Rattle.pt_model.proofs.Positions.{among_cases, all_among}
 use Rattle.pt_view.proofs.Members.{all_map}
 use Rattle.pt_rule.proofs.SpansFacts.{page_within}
-use Rattle.pt_rule.proofs.PathOver.{block_is}
+use Rattle.pt_rule.proofs.PathOverBlock.{block_is}
 use Rattle.pt_rule.proofs.PiecesApart.{Spaced, last_of, spaced}
 
 -- Lists.

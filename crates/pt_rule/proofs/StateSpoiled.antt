@@ -16,8 +16,8 @@ use Rattle.std.specs.Prelude.{IsTrue}
 use Rattle.pt_rule.specs.Totals.{total, prepares}
 use Rattle.pt_rule.specs.Linked.{IsLinkedAt}
 use Rattle.pt_rule.specs.Lawful.{SpansPart, FramesPart, PositionsPart, RootPart, ParentsPart, EntriesPart, BooksPart, PathsPart, PursesPart, SizesPart, BusyPart, KnownPart}
-use Rattle.pt_rule.proofs.States.{small, at, four, zeros, mapped_page, mapped_words, mapped_view, mapped_views, new_view}
-use Rattle.pt_rule.proofs.SharedState.{left, right, words as shared_words}
+use Rattle.pt_rule.proofs.StateMapped.{small, at, four, zeros, mapped_page, mapped_words, mapped_view, mapped_views, new_view}
+use Rattle.pt_rule.proofs.StateShared.{left, right, words as shared_words}
 
 -- the words of the state with a mapped page, with other tags of frames 2 and 3 and other entries
 abbrev with_words : (root third fourth : ℕ) → (pointer leaf other third_first : ℕ) → List ℕ
