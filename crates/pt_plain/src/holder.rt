@@ -131,6 +131,7 @@ impl<F: Format> Holder<F> for Plain<F> {
     }
 
     fn range(&self) -> Span {
+        // A look at a field, which costs nothing: what holds of the fields is known from there on.
         let _ = &self.words;
         Span {
             first: 0,

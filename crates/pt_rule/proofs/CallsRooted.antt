@@ -1,8 +1,7 @@
 -- What a load of the root tells meets the clauses of a holder's call.
-use Rattle.std.proofs.Common.{◌≡◌, inl, inr, true, ℕ, ◌+◌, ◌-◌, ◌/◌, ◌%◌, ◌<◌, ◌≤◌, List, ◌∷◌, ◌++◌, sym, refl, ap, subst, arith, ⊎_elim}
-use Rattle.std.specs.Prelude.{IsTrue, nat_le, ◌==◌, map}
-use Rattle.std.proofs.lemmas.Bool.{and_parts, eqb-true, leb-true}
-use Rattle.pt_model.proofs.Positions.{among_append, among_cases, among_here, among_left, among_levels, among_more, among_right, levels_among, same_position}
+use Rattle.std.proofs.Common.{◌≡◌, inl, inr, ℕ, ◌+◌, ◌-◌, ◌/◌, ◌%◌, ◌<◌, ◌≤◌, List, ◌∷◌, ◌++◌, sym, refl, ap, subst, arith, ⊎_elim}
+use Rattle.std.specs.Prelude.{IsTrue, map}
+use Rattle.pt_model.proofs.Positions.{among_append, among_cases, among_here, among_left, among_levels, among_more, among_right, levels_among}
 use Rattle.pt_model.specs.declared.position.Position.{Position}
 use Rattle.pt_model.specs.Layout.{Layout, input_pages}
 use Rattle.pt_model.specs.Tables.{is_spine, levels_between, spine_position, starting_top}

@@ -5,17 +5,11 @@ use Rattle.pt_model.specs.declared.position.Position.{Position}
 use Rattle.pt_model.specs.Layout.{Layout}
 use Rattle.pt_view.specs.declared.view.View.{View}
 use Rattle.pt_view.specs.declared.view.Prepared.{Prepared}
-use Rattle.pt_model.specs.Sets.{SamePositions}
-use Rattle.pt_view.specs.Lists.{IsIn, AddsFrame, SameFrames}
+use Rattle.pt_view.specs.Lists.{IsIn, AddsFrame}
 use Rattle.pt_view.specs.Calls.{IsPlaced, IsTaken, IsUnplaced}
+use Rattle.pt_rule.proofs.CallsRooted.{same_frames, same_positions}
 use Rattle.pt_rule.specs.Kinds.{after, place, rest_of, take, unplace}
 use Rattle.pt_view.proofs.Members.{in_cases, in_here, in_more}
-
-same_frames : (xs : List ℕ) → SameFrames xs xs
-same_frames xs x = (λ h. h, λ h. h)
-
-same_positions : (ps : List Position) → SamePositions ps ps
-same_positions ps p = (λ h. h, λ h. h)
 
 adds_frame : (xs : List ℕ) (frame : ℕ) → AddsFrame xs (frame ∷ xs) frame
 adds_frame xs frame x = (

@@ -14,12 +14,13 @@ use Rattle.pt_view.specs.declared.view.View.{View}
 use Rattle.pt_view.specs.declared.view.Node.{Node}
 use Rattle.pt_view.specs.declared.view.Piece.{Piece}
 use Rattle.pt_view.specs.declared.view.Change.TheVariants.{Written}
-use Rattle.pt_view.specs.Pieces.{add_piece, first_of, table_of, number_of, level_of, word_of, words_of}
+use Rattle.pt_view.proofs.Pieces as pieces
+use Rattle.pt_view.specs.Pieces.{IsLegalPiece, add_piece, first_of, table_of, number_of, level_of, word_of}
 use Rattle.pt_view.specs.Calls.{IsEntryAt, IsWritten, MayPut}
 use Rattle.pt_rule.specs.Kinds.{written}
 use Rattle.pt_model.proofs.Quotients.{quotient, whole}
 use Rattle.pt_view.proofs.Pieces.{one_here}
-use Rattle.pt_rule.proofs.PathOverBlock.{block_is, piece_within}
+use Rattle.pt_rule.proofs.PathOverBlock.{piece_within}
 
 -- an entry of a path's last table is at one position
 pub one_entry_at : (f : Layout) (v : View) (p q : Position) (i j : ℕ) → IsEntryAt f v p i → IsEntryAt f v q j → p ≡ q
@@ -41,16 +42,12 @@ module _ (f : Layout) (good : IsLayout f) (d : WordsDiffer f) (a : StepsAgree f)
     here_is : (may.position ≡ table_of f x) × (number_of f x ≡ number)
     here_is = one_here f may.position number x may.here
 
+    legal_piece : IsLegalPiece f x
+    legal_piece = record { a_part = may.a_part; legal = may.legal; stated = may.stated }
+
     -- the piece begins at a multiple of its entry's pages
     begins_whole : first_of f x ≡ first_of f x / pages_of_entry f (level_of f x) * pages_of_entry f (level_of f x)
-    begins_whole =
-        let e : ℕ = pages_of_entry f (level_of f x) in
-        let b : ℕ = x.block.first / 2 ^ x.block.log2 in
-        let m : ℕ = b * words_of f x.block + x.part in
-        let h : x.block.first ≡ b * 2 ^ x.block.log2 = whole x.block.first x.block.log2 may.legal.first_aligned in
-        let g : first_of f x ≡ m * e = ap (λ y. y + x.part * e) (h ∙ ap (λ y. b * y) (block_is f good x may.a_part may.legal))
-        ∙ (let k : b * (words_of f x.block * e) + x.part * e ≡ (b * words_of f x.block + x.part) * e = omega arith in k) in
-        g ∙ ap (λ y. y * e) (sym (shl-shr m (f.index * level_of f x)) ∙ ap (λ y. y / e) (sym g))
+    begins_whole = pieces.first_whole good legal_piece
 
     -- its entry's number among all of its level
     entry_number : first_of f x / pages_of_entry f (level_of f x) ≡ may.position.base / pages_of_table f (level_of f x) * 2 ^ f.index + number
@@ -63,15 +60,7 @@ module _ (f : Layout) (good : IsLayout f) (d : WordsDiffer f) (a : StepsAgree f)
         ∙ ap (λ z. may.position.base / pages_of_table f level * 2 ^ f.index + z) here_is.1
 
     leaf_may : MayBeLeaf f (level_of f x) x.block.log2 x.block.out x.block.prot x.part
-    leaf_may = record {
-      below = let s = good.sizes_low x.block.log2 may.legal.a_size in let b = good.start_high in omega arith;
-      a_size = may.legal.a_size;
-      at_level = refl;
-      aligned = may.legal.out_aligned;
-      within = may.legal.in_output;
-      stated = may.stated;
-      a_part = may.a_part;
-    }
+    leaf_may = pieces.may_be_leaf good legal_piece
 
     -- the manual's step at its word finds its page
     finds_page : f.step (level_of f x) (word_of f x) (first_of f x) ≡ page (x.block.out + x.part * pages_of_entry f (level_of f x)) x.block.prot
