@@ -114,6 +114,13 @@ reads_taken_away = refl
 pub reads_not_given : walk (space 2 0x100000003 0x40000082) 3 0x200000 ≡ Alien 2
 reads_not_given = refl
 
+-- what one pointer takes away, no later one gives back: entry 1, then entry 0, then the page in entry 2
+pub reads_stay_away : walk (2 ∷ 0 ∷ 0x100000003 ∷ 0x100000002 ∷ 0x40001003 ∷ zeros 509) 3 0x40002abc ≡ Alien 1
+reads_stay_away = refl
+
+pub writes_stay_away : walk (2 ∷ 0 ∷ 0x100000003 ∷ 0x100000001 ∷ 0x40001003 ∷ zeros 509) 3 0x40002abc ≡ Page 0x40001abc Read
+writes_stay_away = refl
+
 pub nothing_permitted : walk (space 2 0x100000001 0x40001002) 3 0x1abc ≡ None
 nothing_permitted = refl
 

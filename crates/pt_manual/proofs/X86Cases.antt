@@ -123,6 +123,10 @@ writes_taken_away = refl
 pub writes_not_given : walk (space 3 0x100000027 0x40001065) 4 0x1abc ≡ Page 0x40001abc Read
 writes_not_given = refl
 
+-- what one pointer takes away, no later one gives back: entry 1, then entry 0 twice, then the page in entry 2
+pub writes_stay_away : walk (3 ∷ 0 ∷ 0x100000027 ∷ 0x100000025 ∷ 0x40001067 ∷ zeros 509) 4 0x8000002abc ≡ Page 0x40001abc Read
+writes_stay_away = refl
+
 -- sizes: the output has the low bits of the input
 pub small : walk (space 3 0x100000027 0x40001067) 4 0x1fff ≡ Page 0x40001fff ReadWrite
 small = refl
