@@ -9,7 +9,7 @@ use Rattle.pt_view.specs.declared.view.View.{View}
 use Rattle.pt_view.specs.declared.view.Node.{Node}
 use Rattle.pt_view.specs.declared.view.Prepared.{Prepared}
 use Rattle.pt_view.specs.declared.holder.Won.{Won}
-use Rattle.pt_view.specs.Calls.{IsInstalled, IsPlaced, MayInstall, Prepares, Rooted, above, left, entry_end, entry_first, lowest, pieces_at}
+use Rattle.pt_view.specs.Calls.{IsInstalled, IsPlaced, MayInstall, Prepares, Rooted, all_but_last, left, entry_end, entry_first, lowest, pieces_at}
 use Rattle.pt_plain.specs.Owner.{IsOpened}
 use Rattle.table_cases.proofs.owned.a_table_is_linked_once.Goals as goal
 
@@ -77,7 +77,7 @@ ready f made rooted placed level o r p =
 again : (f : Layout) (v w x y : View) (won : Won) → IsReady f v → IsInstalled f ⊥ 0 v won w → x ≡ left w → IsPlaced ⊥ x first_child y → IsReady f y
 again f v w x y won r i e p = record {
   frame = r.frame;
-  path = p.path ∙ ap (λ (u : View). u.path) e ∙ ap above (below f v w r won i).path;
+  path = p.path ∙ ap (λ (u : View). u.path) e ∙ ap all_but_last (below f v w r won i).path;
   first = p.range.first ∙ ap (λ (u : View). u.first) e ∙ i.range.first ∙ r.first;
   count = p.range.count ∙ ap (λ (u : View). u.count) e ∙ i.range.count ∙ r.count;
   pieces = p.book.pieces ∙ ap (λ (u : View). u.pieces) e ∙ i.pieces ∙ r.pieces;
@@ -86,23 +86,23 @@ again f v w x y won r i e p = record {
 }
 
 pub install-first-requires : goal.install-first-requires
-install-first-requires g c = may_link _ c.place.new.self.view (ready _ c.in-Ok.owner.view c.root-level.new.self.view c.place.new.self.view c.root-level.result c.in-Ok.ensures c.root-level.ensures.rooted c.place.ensures.placed)
+install-first-requires g c = may_link _ c.place.new.self.view (ready _ c.in-Ok.owner.view c.root-level.new.self.view c.place.new.self.view c.root-level.result c.in-Ok.ensures.opened c.root-level.ensures.rooted c.place.ensures.placed)
 
 pub leave-requires : goal.leave-requires
 leave-requires g c =
     not_empty _ c.place.new.self.view c.install-first.new.self.view
-    (ready _ c.in-Ok.owner.view c.root-level.new.self.view c.place.new.self.view c.root-level.result c.in-Ok.ensures c.root-level.ensures.rooted c.place.ensures.placed) c.install-first.result c.install-first.ensures.installed
+    (ready _ c.in-Ok.owner.view c.root-level.new.self.view c.place.new.self.view c.root-level.result c.in-Ok.ensures.opened c.root-level.ensures.rooted c.place.ensures.placed) c.install-first.result c.install-first.ensures.installed
 
 pub install-second-requires : goal.install-second-requires
 install-second-requires g c =
     may_link _ c.place-2.new.self.view (again _ c.place.new.self.view c.install-first.new.self.view c.leave.new.self.view c.place-2.new.self.view c.install-first.result
-    (ready _ c.in-Ok.owner.view c.root-level.new.self.view c.place.new.self.view c.root-level.result c.in-Ok.ensures c.root-level.ensures.rooted c.place.ensures.placed)
+    (ready _ c.in-Ok.owner.view c.root-level.new.self.view c.place.new.self.view c.root-level.result c.in-Ok.ensures.opened c.root-level.ensures.rooted c.place.ensures.placed)
     c.install-first.ensures.installed c.leave.ensures.left c.place-2.ensures.placed)
 
 pub leave-requires-2 : goal.leave-requires-2
 leave-requires-2 g c =
     not_empty _ c.place-2.new.self.view c.install-second.new.self.view (again _ c.place.new.self.view c.install-first.new.self.view c.leave.new.self.view c.place-2.new.self.view c.install-first.result
-    (ready _ c.in-Ok.owner.view c.root-level.new.self.view c.place.new.self.view c.root-level.result c.in-Ok.ensures c.root-level.ensures.rooted c.place.ensures.placed)
+    (ready _ c.in-Ok.owner.view c.root-level.new.self.view c.place.new.self.view c.root-level.result c.in-Ok.ensures.opened c.root-level.ensures.rooted c.place.ensures.placed)
     c.install-first.ensures.installed c.leave.ensures.left c.place-2.ensures.placed) c.install-second.result c.install-second.ensures.installed
 
 pub unplace-requires : goal.unplace-requires
