@@ -8,7 +8,7 @@ use Rattle.pt_view.specs.declared.holder.Seen.{Seen}
 use Rattle.pt_view.specs.declared.holder.Seen.TheVariants.{Empty, Leaf, Entered}
 use Rattle.pt_view.specs.declared.holder.Won.{Won}
 use Rattle.pt_view.specs.declared.holder.Won.TheVariants.{Yes, Met}
-use Rattle.pt_view.specs.Views.{SameBook, SamePurse, SameRange}
+use Rattle.pt_view.proofs.Stays.{book_on, purse_on, range_on}
 use Rattle.pt_view.specs.Calls.{IsInstalled, IsPlaced, IsTaken, IsUnplaced, IsWritten, Looked, Prepares, Rooted, Takes, Went, zero, leaf, table}
 use Rattle.pt_rule.specs.Meets.{Always, IsWhole}
 use Rattle.pt_plain.proofs.ReadBack.{Agrees}
@@ -16,31 +16,22 @@ use Rattle.pt_plain.proofs.ReadBack.{Agrees}
 through : {A B C : Type 0} → (B ↔ A) → (C ↔ B) → (C ↔ A)
 through b c = (λ h. b.0 (c.0 h), λ h. c.1 (b.1 h))
 
-pub range_on : {u v w : View} → SameRange v u → SameRange u w → SameRange v w
-range_on a b = record { frames = b.frames ∙ a.frames; levels = b.levels ∙ a.levels; first = b.first ∙ a.first; count = b.count ∙ a.count }
-
-pub book_on : {u v w : View} → SameBook v u → SameBook u w → SameBook v w
-book_on a b = record { pieces = b.pieces ∙ a.pieces; tables = b.tables ∙ a.tables; top = b.top ∙ a.top }
-
-pub purse_on : {u v w : View} → SamePurse v u → SamePurse u w → SamePurse v w
-purse_on a b = record { purse = b.purse ∙ a.purse; end = b.end ∙ a.end }
-
 takes_on : (won : Bool) (frame : ℕ) (v u w : View) → Agrees u w → Takes won Always frame v u → Takes won ⊥ frame v w
-takes_on true frame v u w a t = (a.purse.purse ∙ t.0, λ no. absurd no)
-takes_on false frame v u w a t = (a.purse.purse ∙ t.0, λ no. absurd no)
+takes_on true frame v u w a t = (a.same.purse.purse ∙ t.0, λ no. absurd no)
+takes_on false frame v u w a t = (a.same.purse.purse ∙ t.0, λ no. absurd no)
 
 prepares_on : (won : Won) (v u w : View) → Agrees u w → Prepares won v u → Prepares won v w
-prepares_on Yes v u w a e = a.prepared ∙ e
-prepares_on Met v u w a e = a.prepared ∙ e
+prepares_on Yes v u w a e = a.same.prepared ∙ e
+prepares_on Met v u w a e = a.same.prepared ∙ e
 
 module _ {v u w : View} (a : Agrees u w) where
   pub placed_on : {p : Position} → IsPlaced Always v p u → IsPlaced ⊥ v p w
   placed_on r = record {
-    range = range_on r.range a.range;
-    book = book_on r.book a.book;
-    path = a.path ∙ r.path;
-    purse = (r.purse.0, r.purse.1 ∙ ap (λ (xs : List ℕ). r.purse.0 ∷ xs) (sym a.purse.purse), a.prepared ∙ r.purse.2);
-    end = a.purse.end ∙ r.end;
+    range = range_on r.range a.same.range;
+    book = book_on r.book a.same.book;
+    path = a.same.path ∙ r.path;
+    purse = (r.purse.0, r.purse.1 ∙ ap (λ (xs : List ℕ). r.purse.0 ∷ xs) (sym a.same.purse.purse), a.same.prepared ∙ r.purse.2);
+    end = a.same.purse.end ∙ r.end;
     busy = λ x. through (r.busy x) (a.busy x);
     known = λ p. through (r.known p) (a.known p);
     told = λ no. absurd no;
@@ -48,12 +39,12 @@ module _ {v u w : View} (a : Agrees u w) where
 
   pub unplaced_on : IsUnplaced Always v u → IsUnplaced ⊥ v w
   unplaced_on r = record {
-    range = range_on r.range a.range;
-    book = book_on r.book a.book;
-    path = a.path ∙ r.path;
-    purse = λ x e. a.purse.purse ∙ r.purse x e;
-    none = a.prepared ∙ r.none;
-    end = a.purse.end ∙ r.end;
+    range = range_on r.range a.same.range;
+    book = book_on r.book a.same.book;
+    path = a.same.path ∙ r.path;
+    purse = λ x e. a.same.purse.purse ∙ r.purse x e;
+    none = a.same.prepared ∙ r.none;
+    end = a.same.purse.end ∙ r.end;
     busy = λ x. through (r.busy x) (a.busy x);
     known = λ p. through (r.known p) (a.known p);
     told = λ no. absurd no;
@@ -61,11 +52,11 @@ module _ {v u w : View} (a : Agrees u w) where
 
   pub taken_on : {frame : ℕ} {won : Bool} → IsTaken Always frame v won u → IsTaken ⊥ frame v won w
   taken_on {frame = frame} {won = won} r = record {
-    range = range_on r.range a.range;
-    book = book_on r.book a.book;
-    path = a.path ∙ r.path;
-    prepared = a.prepared ∙ r.prepared;
-    end = a.purse.end ∙ r.end;
+    range = range_on r.range a.same.range;
+    book = book_on r.book a.same.book;
+    path = a.same.path ∙ r.path;
+    prepared = a.same.prepared ∙ r.prepared;
+    end = a.same.purse.end ∙ r.end;
     takes = takes_on won frame v u w a r.takes;
     busy = λ x. through (r.busy x) (a.busy x);
     known = λ p. through (r.known p) (a.known p);
@@ -75,11 +66,11 @@ module _ {v u w : View} (a : Agrees u w) where
 module _ {f : Layout} {v u w : View} (a : Agrees u w) where
   pub rooted_on : {level : ℕ} → IsWhole f v → Rooted f Always (IsWhole f v) v level u → Rooted f ⊥ (Unit {0}) v level w
   rooted_on whole r = record {
-    range = range_on r.range a.range;
-    book = book_on r.book a.book;
-    purse = purse_on r.purse a.purse;
-    prepared = a.prepared ∙ r.prepared;
-    path = (r.path.0, a.path ∙ r.path.1);
+    range = range_on r.range a.same.range;
+    book = book_on r.book a.same.book;
+    purse = purse_on r.purse a.same.purse;
+    prepared = a.same.prepared ∙ r.prepared;
+    path = (r.path.0, a.same.path ∙ r.path.1);
     busy = λ x. through (r.busy x) (a.busy x);
     known = λ p. through (r.known p) (a.known p);
     told = λ no. absurd no;
@@ -91,47 +82,47 @@ module _ {f : Layout} {v u w : View} (a : Agrees u w) where
   }
 
   looked_on : {p : Position} {number : ℕ} (seen : Seen) → IsWhole f v → Looked f Always (IsWhole f v) v p number seen u → Looked f ⊥ (Unit {0}) v p number seen w
-  looked_on Empty whole (zero x path known vacant told) = zero w (a.path ∙ path) (λ p. through (known p) (a.known p)) vacant (λ no. absurd no)
+  looked_on Empty whole (zero x path known vacant told) = zero w (a.same.path ∙ path) (λ p. through (known p) (a.known p)) vacant (λ no. absurd no)
   looked_on (Leaf word) whole (leaf x word' piece path known told member at once is) =
-      leaf w word piece (a.path ∙ path) (λ p. through (known p) (a.known p)) (λ no. absurd no) member at once is
+      leaf w word piece (a.same.path ∙ path) (λ p. through (known p) (a.known p)) (λ no. absurd no) member at once is
   looked_on Entered whole (table x frame path known told high none owned) =
-      table w frame (a.path ∙ path) (λ p. through (known p) (a.known p)) (λ no. absurd no) high none (λ _. owned whole)
+      table w frame (a.same.path ∙ path) (λ p. through (known p) (a.known p)) (λ no. absurd no) high none (λ _. owned whole)
 
   pub went_on : {number : ℕ} {seen : Seen} → IsWhole f v → Went f Always (IsWhole f v) number v seen u → Went f ⊥ (Unit {0}) number v seen w
   went_on {seen = seen} whole r = record {
-    range = range_on r.range a.range;
-    book = book_on r.book a.book;
-    purse = purse_on r.purse a.purse;
-    prepared = a.prepared ∙ r.prepared;
+    range = range_on r.range a.same.range;
+    book = book_on r.book a.same.book;
+    purse = purse_on r.purse a.same.purse;
+    prepared = a.same.prepared ∙ r.prepared;
     busy = λ x. through (r.busy x) (a.busy x);
     looked = λ p entry. looked_on seen whole (r.looked p entry);
   }
 
   pub installed_on : {number : ℕ} {won : Won} → IsInstalled f Always number v won u → IsInstalled f ⊥ number v won w
   installed_on {won = won} r = record {
-    range = range_on r.range a.range;
-    pieces = a.book.pieces ∙ r.pieces;
-    top = a.book.top ∙ r.top;
-    purse = purse_on r.purse a.purse;
+    range = range_on r.range a.same.range;
+    pieces = a.same.book.pieces ∙ r.pieces;
+    top = a.same.book.top ∙ r.top;
+    purse = purse_on r.purse a.same.purse;
     prepares = prepares_on won v u w a r.prepares;
     busy = λ x. through (r.busy x) (a.busy x);
-    tables = λ p entry. a.book.tables ∙ r.tables p entry;
-    path = λ p entry. ((r.path p entry).0, a.path ∙ (r.path p entry).1);
+    tables = λ p entry. a.same.book.tables ∙ r.tables p entry;
+    path = λ p entry. ((r.path p entry).0, a.same.path ∙ (r.path p entry).1);
     known = λ p entry q. through (r.known p entry q) (a.known q);
     told = λ no. absurd no;
   }
 
   pub written_on : {number word : ℕ} → IsWritten f Always number word v u → IsWritten f ⊥ number word v w
   written_on r = record {
-    range = range_on r.range a.range;
-    purse = purse_on r.purse a.purse;
-    path = a.path ∙ r.path;
-    prepared = a.prepared ∙ r.prepared;
+    range = range_on r.range a.same.range;
+    purse = purse_on r.purse a.same.purse;
+    path = a.same.path ∙ r.path;
+    prepared = a.same.prepared ∙ r.prepared;
     busy = λ x. through (r.busy x) (a.busy x);
     known = λ p. through (r.known p) (a.known p);
-    tables = a.book.tables ∙ r.tables;
-    pieces = λ y is put. a.book.pieces ∙ r.pieces y is put;
-    top = λ y is put. a.book.top ∙ r.top y is put;
+    tables = a.same.book.tables ∙ r.tables;
+    pieces = λ y is put. a.same.book.pieces ∙ r.pieces y is put;
+    top = λ y is put. a.same.book.top ∙ r.top y is put;
     stores = λ no. absurd no;
     told = λ no. absurd no;
   }

@@ -180,14 +180,10 @@ module _ {f : Layout} (laws : Laws f) {o : Fields} (own : IsOwner f o) (number :
         let level : level_at (lowest v.path) ≡ o.level = ap level_at links.entry.is_lowest ∙ ap (λ (p : Position). p.level) links.entry.at ∙ at_level in
         λ i. if found == 0 then pointer_to f (level i) (links.prepared i) else found
 
-    pub install_finds : (won : Won) → InstallFinds f (IsWhole f v) number v won → InstallFinds f (Unit {0}) number (span_view f o) won
-    install_finds Yes finds = subst (λ (w : View). InstallFinds f (Unit {0}) number w Yes) (sym (span_whole own)) finds
-    install_finds Met finds = subst (λ (w : View). InstallFinds f (Unit {0}) number w Met) (sym (span_whole own)) (λ _. finds (whole own))
-
     -- Another table is linked there.
     module _ (nonzero : found ≢ 0) where
       pub met_finds : InstallFinds f (Unit {0}) number (span_view f o) Met
-      met_finds = install_finds Met (installs.known nonzero)
+      met_finds = subst (λ (w : View). InstallFinds f (Unit {0}) number w Met) (sym (span_whole own)) (λ _. installs.known nonzero (whole own))
 
       pub met_pointer : (address : ℕ) × IsPointer f o.level found address
       met_pointer = let s = installs.some nonzero in (s.0, subst (λ (k : ℕ). IsPointer f k found s.0) at_level s.1)
@@ -210,7 +206,7 @@ module _ {f : Layout} (laws : Laws f) {o : Fields} (own : IsOwner f o) (number :
     -- The entry is zero, and the prepared frame is linked there.
     module _ (empty : found ≡ 0) where
       pub won_finds : InstallFinds f (Unit {0}) number (span_view f o) Yes
-      won_finds = install_finds Yes (installs.vacant empty)
+      won_finds = subst (λ (w : View). InstallFinds f (Unit {0}) number w Yes) (sym (span_whole own)) (installs.vacant empty)
 
       some_frame : (x y : Prepared) → Some x ≡ Some y → x.frame ≡ y.frame
       some_frame x y e = let same : x ≡ y = cc in ap (λ (z : Prepared). z.frame) same
@@ -262,7 +258,7 @@ module _ {f : Layout} (laws : Laws f) {o : Fields} (own : IsOwner f o) (number :
         (noted_after own after_it r.busy (tags_stay f o frame number _ words stores) (λ p h. (r.known p).1 h)
         (λ p h. inl (subst (λ (ps : List Position). IsAmong ps p) (tells.same_tables (whole own)) h)) (tells.same_top (whole own)))
         (λ v w. IsWritten f ⊥ number (word_of f x) v w × (w.tables ≡ v.tables) × (w.top ≡ v.top))
-        (λ a. (written_on a r, a.book.tables ∙ tells.same_tables (whole own), a.book.top ∙ tells.same_top (whole own)))
+        (λ a. (written_on a r, a.same.book.tables ∙ tells.same_tables (whole own), a.same.book.top ∙ tells.same_top (whole own)))
 
   -- the word of some piece
   pub wrote_word : {word : ℕ} → MayWrite f (span_view f o) number word → (words : List ℕ) → words ≡ slice_set o.words (entry_place f o.frames frame number) word → Writes own number word words

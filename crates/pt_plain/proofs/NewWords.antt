@@ -13,12 +13,12 @@ use Rattle.pt_rule.specs.Tags.{first_or, held_word}
 use Rattle.pt_rule.specs.Lawful.{Lawful}
 use Rattle.pt_rule.specs.Opening.{IsNew, counting, opening_view}
 use Rattle.pt_rule.proofs.Laws.{new_is_lawful}
-use Rattle.pt_plain.specs.Owner.{Fields, HasWholeSpan, IsOpened, IsOwner, aside_of, none_aside, span_view, whole_view}
+use Rattle.pt_plain.specs.Owner.{Fields, HasWholeSpan, IsOpened, IsOwner, aside_of, none_aside, span_view, whole_fields, whole_view}
 use Rattle.pt_plain.proofs.Laws.{Laws}
 use Rattle.pt_plain.proofs.Matches.{Matches}
 use Rattle.pt_plain.proofs.Owners.{aside_none, span_whole}
 use Rattle.pt_plain.specs.Chains.{IsChain, IsKept, NamesNext}
-use Rattle.pt_plain.proofs.ReadBack.{book_is, owner, range_is, same_path, same_prepared, same_purse}
+use Rattle.pt_plain.proofs.ReadBack.{owner, shows}
 
 -- one frame more names the next
 pub names_more : (words : List ℕ) (frame : ℕ) → NamesNext words frame → 1 + frame < length words → NamesNext (slice_set words (1 + frame) (held_word (Some (frame + 1)))) (frame + 1)
@@ -75,24 +75,10 @@ module _ (f : Layout) (good : IsLayout f) (n l hold : ℕ) (zeros words : List �
     }
 
 -- what a new space's words and fields are
-abbrev pub fields_of : Layout → (n l hold : ℕ) → (words : List ℕ) → (head : Option ℕ) → (path : List ℕ) → Fields
-fields_of f n l hold words head path = record {
-  words = words;
-  frames = n;
-  levels = l;
-  first = 0;
-  count = input_pages f;
-  head = head;
-  held = hold;
-  path = path;
-  level = l;
-  prepared = None;
-}
-
 pub record Made (f : Layout) (n l hold : ℕ) (words : List ℕ) (head : Option ℕ) (path : List ℕ) : Type 0 where
-  pub owner : IsOwner f (fields_of f n l hold words head path)
-  pub opened : IsOpened f n l hold (span_view f (fields_of f n l hold words head path))
-  pub aside : aside_of f (fields_of f n l hold words head path) ≡ none_aside
+  pub owner : IsOwner f (whole_fields f words n l head hold path l None)
+  pub opened : IsOpened f n l hold (span_view f (whole_fields f words n l head hold path l None))
+  pub aside : aside_of f (whole_fields f words n l head hold path l None) ≡ none_aside
 
 module _ {f : Layout} (laws : Laws f) {n l hold : ℕ} {words : List ℕ} (new : IsNew f n l hold words) (limit : n ≤ frame_limit f) (room : hold < n) (low : f.start ≤ l) (high : l ≤ f.levels)
     (path : List ℕ) (eight : length path ≡ 8) where
@@ -100,7 +86,7 @@ module _ {f : Layout} (laws : Laws f) {n l hold : ℕ} {words : List ℕ} (new :
   u = opening_view f n l hold
 
   abbrev o : Fields
-  o = fields_of f n l hold words (first_or None (counting 1 hold)) path
+  o = whole_fields f words n l (first_or None (counting 1 hold)) hold path l None
 
   lawful_u : Lawful f n l words (u ∷ [])
   lawful_u = new_is_lawful f n l hold words laws.layout limit room low high new
@@ -124,25 +110,16 @@ module _ {f : Layout} (laws : Laws f) {n l hold : ℕ} {words : List ℕ} (new :
   new_owner = owner laws lawful_u refl span matches_u
 
   opened : IsOpened f n l hold (whole_view f o)
-  opened =
-      let range = range_is laws lawful_u refl span matches_u in
-      let book = book_is laws lawful_u refl span matches_u in
-      let purse = same_purse laws lawful_u refl span matches_u in
-      record {
-        frames = range.frames;
-        levels = range.levels;
-        first = range.first;
-        count = range.count;
-        rest = record {
-          path = same_path laws lawful_u refl span matches_u;
-          prepared = same_prepared laws lawful_u refl span matches_u;
-          end = purse.end;
-          pieces = book.pieces;
-        };
-        tables = book.tables;
-        top = book.top;
-        purse = purse.purse;
-      }
+  opened = let a = shows laws lawful_u refl span matches_u in record {
+    frames = a.range.frames;
+    levels = a.range.levels;
+    first = a.range.first;
+    count = a.range.count;
+    rest = record { path = a.path; prepared = a.prepared; end = a.purse.end; pieces = a.book.pieces };
+    tables = a.book.tables;
+    top = a.book.top;
+    purse = a.purse.purse;
+  }
 
   pub makes : Made f n l hold words (first_or None (counting 1 hold)) path
   makes = record { owner = new_owner; opened = subst (IsOpened f n l hold) (sym (span_whole new_owner)) opened; aside = aside_none new_owner }

@@ -197,10 +197,6 @@ module _ {f : Layout} {o : Fields} (own : IsOwner f o) where
     pub lowest_in : IsLowestIn v (slice_index o.path o.level)
     lowest_in = ((node_at o.words o.path o.level).position, lowest_is)
 
-    -- it is at the position that the tag of the path's last table says
-    pub position_is : p ≡ (node_at o.words o.path o.level).position
-    position_is = sym entry.at ∙ ap (λ (x : Node). x.position) node_is
-
 -- What a call does: the fields after it are an owner's, and the holder's view before and after are as the call says.
 pub record Does (f : Layout) (o o' : Fields) (Says : View → View → Type 0) : Type 0 where
   pub owner : IsOwner f o'

@@ -7,6 +7,7 @@ use Rattle.pt_model.specs.Words.{root_frame, root_level}
 use Rattle.pt_view.specs.declared.view.View.{View}
 use Rattle.pt_view.specs.declared.view.Node.{Node}
 use Rattle.pt_view.specs.Calls.{Rooted, left, all_but_last}
+use Rattle.pt_view.proofs.Paths.{front_snoc}
 use Rattle.pt_rule.specs.Lawful.{Lawful}
 use Rattle.pt_rule.specs.Kinds.{after, load_root}
 use Rattle.pt_rule.proofs.Laws.{views_note}
@@ -15,7 +16,7 @@ use Rattle.pt_plain.proofs.Carried.{rooted_on}
 use Rattle.pt_plain.proofs.Laws.{Laws}
 use Rattle.pt_plain.proofs.Matches.{prepared_kept, purse_kept}
 use Rattle.pt_plain.proofs.Owners.{Does, book, does, given, live, matches, shown, whole}
-use Rattle.pt_plain.proofs.Paths.{Follows, nodes_above, nodes_down_more, nodes_length}
+use Rattle.pt_plain.proofs.Paths.{Follows, nodes_down_more, nodes_length}
 use Rattle.pt_plain.proofs.Steps.{loaded, noted_after, read_back, says}
 
 -- What the calls do.
@@ -39,23 +40,19 @@ module _ {f : Layout} {o : Fields} (own : IsOwner f o) (some : 0 < length (whole
       let e : length v.path ≡ root_level o.words + 1 - o.level = ap length (shown f o).path_is ∙ nodes_length o.words o.path o.level (root_level o.words + 1 - o.level) in
       omega arith
 
+  whole_path : v.path ≡ nodes_down o.words o.path (o.level + 1) rest ++ node_at o.words o.path o.level ∷ []
+  whole_path = (shown f o).path_is ∙ ap (nodes_down o.words o.path o.level) count_is ∙ nodes_down_more o.words o.path o.level rest
+
+  front_is : all_but_last v.path ≡ nodes_down o.words o.path (o.level + 1) rest
+  front_is = ap all_but_last whole_path ∙ front_snoc (nodes_down o.words o.path (o.level + 1) rest) (node_at o.words o.path o.level)
+
   path_now : nodes_down o.words o.path (o.level + 1) (root_level o.words + 1 - (o.level + 1)) ≡ all_but_last v.path
-  path_now =
-      let e = count_is in
-      let less : root_level o.words + 1 - (o.level + 1) ≡ rest = omega arith in
-      ap (nodes_down o.words o.path (o.level + 1)) less ∙ sym (nodes_above o.words o.path o.level rest)
-      ∙ ap (λ (k : ℕ). all_but_last (nodes_down o.words o.path o.level k)) (sym e) ∙ ap all_but_last (sym (shown f o).path_is)
+  path_now = ap (nodes_down o.words o.path (o.level + 1)) (let e = count_is in let less : root_level o.words + 1 - (o.level + 1) ≡ rest = omega arith in less) ∙ sym front_is
 
   -- the path loses its last table
   leaves : whole_view f (record o { level = o.level + 1 }) ≡ left v
   unfolding whole_view
   leaves = ap (λ (xs : List Node). record v { path = xs }) path_now
-
-  whole_path : v.path ≡ all_but_last v.path ++ node_at o.words o.path o.level ∷ []
-  whole_path =
-      (shown f o).path_is ∙ ap (nodes_down o.words o.path o.level) count_is ∙ nodes_down_more o.words o.path o.level rest
-      ∙ ap (λ (xs : List Node). xs ++ node_at o.words o.path o.level ∷ [])
-      (ap (nodes_down o.words o.path (o.level + 1)) (let e = count_is in let less : rest ≡ root_level o.words + 1 - (o.level + 1) = omega arith in less) ∙ path_now)
 
   lawful_left : Lawful f o.frames o.levels o.words (left v ∷ [])
   lawful_left = views_note f o.frames o.levels o.words (v ∷ []) 0 v (left v) own.lawful refl (live f o) (record {
@@ -64,7 +61,7 @@ module _ {f : Layout} {o : Fields} (own : IsOwner f o) (some : 0 < length (whole
     purse = record { purse = refl; end = refl };
     prepared = refl;
     rest = node_at o.words o.path o.level ∷ [];
-    path = whole_path;
+    path = whole_path ∙ ap (λ (xs : List Node). xs ++ node_at o.words o.path o.level ∷ []) (sym front_is);
     busy = own.lawful.busy 0 v refl;
     known = own.lawful.known 0 v refl;
   })
@@ -80,11 +77,8 @@ module _ {f : Layout} {o : Fields} (own : IsOwner f o) (some : 0 < length (whole
     eight = own.eight;
   }
 
-  does_leave : Does f o (record o { level = o.level + 1 }) (λ v w. w ≡ left v)
-  does_leave = does (λ v w. w ≡ left v) own owner_left leaves
-
 pub leave : {f : Layout} {o : Fields} (own : IsOwner f o) → 0 < length (span_view f o).path → Left own
-leave own some = does_leave own (given own (λ v. 0 < length v.path) some)
+leave own some = let s = given own (λ v. 0 < length v.path) some in does (λ v w. w ≡ left v) own (owner_left own s) (leaves own s)
 
 -- Root.
 

@@ -7,7 +7,8 @@ use native.Mathlib.Decide.{ℕ_discrete}
 use Rattle.pt_model.specs.declared.position.Position.{Position}
 use Rattle.pt_model.specs.Words.{tag, placed_at}
 use Rattle.pt_view.specs.declared.view.Node.{Node}
-use Rattle.pt_view.specs.Calls.{lowest, all_but_last}
+use Rattle.pt_view.specs.Calls.{lowest}
+use Rattle.pt_view.proofs.Paths.{lowest_snoc}
 use Rattle.pt_plain.specs.Owner.{node_at, nodes_down}
 
 -- the nodes are in the path's frames, from the level under k on down
@@ -58,18 +59,6 @@ module _ (words path : List ℕ) where
   nodes_length level zero = refl
   nodes_length level (suc count) = ap suc (nodes_length level count)
 
-  -- the lowest node is the one of the path's level
-  pub nodes_lowest : (level count : ℕ) → lowest (nodes_down words path level (suc count)) ≡ Some (node_at words path level)
-  nodes_lowest level zero = let e : level + 0 ≡ level = omega arith in ap (λ (j : ℕ). Some (node_at words path j)) e
-  nodes_lowest level (suc count) = nodes_lowest level count
-
-  pub nodes_above : (level count : ℕ) → all_but_last (nodes_down words path level (suc count)) ≡ nodes_down words path (level + 1) count
-  nodes_above level zero = refl
-  nodes_above level (suc count) =
-      let e : level + suc count ≡ level + 1 + count = omega arith in
-      ap (λ (j : ℕ). node_at words path j ∷ all_but_last (nodes_down words path level (suc count))) e
-      ∙ ap (λ (xs : List Node). node_at words path (level + 1 + count) ∷ xs) (nodes_above level count)
-
 -- one more node, below the others
 pub follows_more : (path : List ℕ) (k j : ℕ) (xs : List Node) (x : Node) → Follows path k xs → length xs + suc j ≡ k → x.position.level ≡ j → j < length path →
     Follows (slice_set path j x.frame) k (xs ++ x ∷ [])
@@ -89,3 +78,7 @@ nodes_down_more words path level (suc count) =
     let e : level + suc count ≡ level + 1 + count = omega arith in
     ap (λ (j : ℕ). node_at words path j ∷ nodes_down words path level (suc count)) e
     ∙ ap (λ (xs : List Node). node_at words path (level + 1 + count) ∷ xs) (nodes_down_more words path level count)
+
+-- so it is the one of the path's level
+pub nodes_lowest : (words path : List ℕ) (level count : ℕ) → lowest (nodes_down words path level (suc count)) ≡ Some (node_at words path level)
+nodes_lowest words path level count = ap lowest (nodes_down_more words path level count) ∙ lowest_snoc (nodes_down words path (level + 1) count) (node_at words path level)

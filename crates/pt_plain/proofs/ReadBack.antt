@@ -38,13 +38,17 @@ pub record Noted (o : Fields) (u : View) : Type 0 where
   pub busy : (g : ℕ) → g < o.frames → tag o.words g ≢ 0 → IsIn u.busy g
   pub known : (p : Position) → IsAmong (known_in o.levels u.tables u.top) p → IsAmong u.known p
 
--- two views that differ in their histories alone
-pub record Agrees (u w : View) : Type 0 where
+-- two views that differ in what they have met alone
+pub record Shows (u w : View) : Type 0 where
   pub range : SameRange u w
   pub book : SameBook u w
   pub purse : SamePurse u w
   pub path : w.path ≡ u.path
   pub prepared : w.prepared ≡ u.prepared
+
+-- two views that differ in their histories alone
+pub record Agrees (u w : View) : Type 0 where
+  pub same : Shows u w
   pub busy : SameFrames u.busy w.busy
   pub known : SamePositions u.known w.known
 
@@ -85,25 +89,15 @@ module _ {f : Layout} (laws : Laws f) {o : Fields} {u : View} (r : Lawful f o.fr
   prepared_is : prepared_at o.words o.prepared ≡ u.prepared
   prepared_is = ap (prepared_at o.words) (sym m.prepared.is) ∙ prepared_back o.words u.prepared (r.frames.at 0 u refl) m.prepared.plain
 
-  pub range_is : SameRange u w
+  pub shows : Shows u w
   unfolding whole_view
-  range_is = let sizes = r.sizes.live 0 u refl live in record { frames = sym sizes.0; levels = sym sizes.1; first = sym read.3; count = sym whole }
-
-  pub book_is : SameBook u w
-  unfolding whole_view
-  book_is = record { pieces = sym read.0; tables = sym read.1; top = sym read.2 }
-
-  pub same_purse : SamePurse u w
-  unfolding whole_view
-  same_purse = record { purse = purse_is; end = sym m.purse.end }
-
-  pub same_path : w.path ≡ u.path
-  unfolding whole_view
-  same_path = path_is
-
-  pub same_prepared : w.prepared ≡ u.prepared
-  unfolding whole_view
-  same_prepared = prepared_is
+  shows = let sizes = r.sizes.live 0 u refl live in record {
+    range = record { frames = sym sizes.0; levels = sym sizes.1; first = sym read.3; count = sym whole };
+    book = record { pieces = sym read.0; tables = sym read.1; top = sym read.2 };
+    purse = record { purse = purse_is; end = sym m.purse.end };
+    path = path_is;
+    prepared = prepared_is;
+  }
 
   -- what is known of the tree is a table of it, or of the spine
   known_there : (p : Position) → IsAmong u.known p → IsAmong (known_in o.levels u.tables u.top) p
@@ -142,25 +136,18 @@ module _ {f : Layout} (laws : Laws f) {o : Fields} {u : View} (r : Lawful f o.fr
       ))
       (among_append p u.tables (map spine_position (levels_between (starting_top o.levels) u.top)) h)
 
-  levels_same : w.levels ≡ o.levels
-  levels_same = (shown f o).levels_are
-
   known_of_w : (p : Position) → IsAmong w.known p → IsTrue (is_in_tree o.levels o.words (u ∷ []) p) × (IsTrue (is_spine w.levels p) ⊎ IsTrue (meets_span w p.base (end_of_table f p)))
   known_of_w p h =
       let k = known_true p (subst (λ (ps : List Position). IsAmong ps p) (sym known_same) h) in (
         k.0,
-        ⊎_elim (λ s. inl (subst (λ (l : ℕ). IsTrue (is_spine l p)) (sym levels_same) s))
-            (λ s. inr (subst (λ (c : ℕ × ℕ). IsTrue (nat_lt p.base (c.0 + c.1) && nat_lt c.0 (end_of_table f p))) (λ i. (sym range_is.first i, sym range_is.count i)) s)) k.1,
+        ⊎_elim (λ s. inl (subst (λ (l : ℕ). IsTrue (is_spine l p)) (sym (shown f o).levels_are) s))
+            (λ s. inr (subst (λ (c : ℕ × ℕ). IsTrue (nat_lt p.base (c.0 + c.1) && nat_lt c.0 (end_of_table f p))) (λ i. (sym shows.range.first i, sym shows.range.count i)) s)) k.1,
       )
 
   pub agrees : Noted o u → Agrees u w
   unfolding whole_view
   agrees noted = record {
-    range = range_is;
-    book = book_is;
-    purse = same_purse;
-    path = same_path;
-    prepared = same_prepared;
+    same = shows;
     busy = λ x. (
       λ h. let a : (x < o.frames) × (tag o.words x ≢ 0) = busy_tag o.words o.frames x h in noted.busy x a.0 a.1,
       λ h. let lt = noted.within x h in tag_busy o.words o.frames x lt (r.busy 0 u refl whole x lt h),
@@ -175,12 +162,12 @@ module _ {f : Layout} (laws : Laws f) {o : Fields} {u : View} (r : Lawful f o.fr
   owner =
       let depth = m.path.depth in record {
         lawful = views_note f o.frames o.levels o.words (u ∷ []) 0 u w r refl live (record {
-          range = range_is;
-          book = book_is;
-          purse = same_purse;
-          prepared = same_prepared;
+          range = shows.range;
+          book = shows.book;
+          purse = shows.purse;
+          prepared = shows.prepared;
           rest = [];
-          path = sym same_path ∙ sym (append-nil w.path);
+          path = sym shows.path ∙ sym (append-nil w.path);
           busy = λ all g lt h. (busy_tag o.words o.frames g (subst (λ (xs : List ℕ). IsIn xs g) (shown f o).busy_is h)).1;
           known = known_of_w;
         });

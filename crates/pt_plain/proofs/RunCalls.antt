@@ -22,7 +22,7 @@ use Rattle.pt_plain.specs.Owner.{Fields, IsOwner, set_run, span_view, whole_view
 use Rattle.pt_plain.proofs.EntryCalls as entry
 use Rattle.pt_plain.proofs.Laws.{Laws}
 use Rattle.pt_plain.proofs.Owners.{Does, does, given, span_whole}
-use Rattle.pt_plain.proofs.Carried.{purse_on, range_on}
+use Rattle.pt_view.proofs.Stays.{purse_here, purse_on, range_here, range_on}
 
 -- What a number of writes leaves of a view, beside its pieces.
 record Keeps (v w : View) : Type 0 where
@@ -37,8 +37,8 @@ record Keeps (v w : View) : Type 0 where
 
 keeps_here : (v : View) → Keeps v v
 keeps_here v = record {
-  range = record { frames = refl; levels = refl; first = refl; count = refl };
-  purse = record { purse = refl; end = refl };
+  range = range_here;
+  purse = purse_here;
   path = refl;
   prepared = refl;
   busy = λ x. ((λ h. h), (λ h. h));
@@ -179,12 +179,6 @@ module _ {f : Layout} (laws : Laws f) {o : Fields} (own : IsOwner f o) {first co
   abbrev all_of : Written count
   all_of = all_to count (let e : count ≤ count = omega arith in e)
 
-  inside : 0 < count → first + count ≤ 2 ^ f.index
-  inside some = let low = (are.may (count - 1) (omega arith)).entry.within in omega arith
-
-  within : 0 < count → slice_index o.path o.level < o.frames
-  within some = entry.write_within laws own (first + 0) (piece 0) (subst (λ (u : View). MayPut f u (first + 0) (piece 0)) (sym (span_whole own)) (are.may 0 some))
-
   -- the tables of the path are the book's already
   path_tables : 0 < count → (to count).tables ≡ add_positions v.tables (off_spine v.levels v.path)
   path_tables some = all_of.keeps.tables ∙ sym (wrote 0 some begun).1 ∙ (wrote 0 some begun).0.tables
@@ -201,10 +195,10 @@ module _ {f : Layout} (laws : Laws f) {o : Fields} (own : IsOwner f o) {first co
   asks = given own (λ w. MayWriteRun f w first count word step) asked
 
   pub run_inside : first + count ≤ 2 ^ f.index
-  run_inside = inside laws own asks.piece asks.are asks.some
+  run_inside = let some = asked.some in let low = (asked.are.may (count - 1) (omega arith)).entry.within in omega arith
 
   pub run_within : slice_index o.path o.level < o.frames
-  run_within = within laws own asks.piece asks.are asks.some
+  run_within = entry.write_within laws own (first + 0) (asked.piece 0) (asked.are.may 0 asked.some)
 
   pub ran : (words : List ℕ) → words ≡ set_run o.words (entry_place f o.frames (slice_index o.path o.level) first) count word step →
       Runs own first count word step words

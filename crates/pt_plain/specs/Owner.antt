@@ -33,6 +33,22 @@ pub record Fields : Type 0 where
   pub level : ℕ
   pub prepared : Option ℕ
 
+-- the fields of an owner that spans the whole space
+abbrev pub whole_fields : Layout → (words : List ℕ) → (frames levels : ℕ) → (head : Option ℕ) → (held : ℕ) →
+    (path : List ℕ) → (level : ℕ) → (prepared : Option ℕ) → Fields
+whole_fields f words frames levels head held path level prepared = record {
+  words = words;
+  frames = frames;
+  levels = levels;
+  first = 0;
+  count = input_pages f;
+  head = head;
+  held = held;
+  path = path;
+  level = level;
+  prepared = prepared;
+}
+
 -- what callers see: the words, the holder's view of its span, and what is set aside outside it
 pub record Owned : Type 0 where
   pub words : List ℕ

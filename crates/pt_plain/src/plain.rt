@@ -33,36 +33,15 @@ pub struct Plain<F: Format> {
 }
 
 impl<F: Format> Model for Plain<F> {
-    ghost use Rattle.pt_model.specs.Layout.{input_pages};
-    ghost use Rattle.pt_plain.specs.Owner.{Owned, owned, IsOwner};
+    ghost use Rattle.pt_plain.specs.Owner.{Owned, whole_fields, owned, IsOwner};
 
     ghost Value = { Owned };
 
-    ghost view = { λ p. owned F.layout (record {
-      words = p.words.items;
-      frames = p.frames;
-      levels = p.levels;
-      first = 0;
-      count = input_pages F.layout;
-      head = p.head;
-      held = p.held;
-      path = p.path;
-      level = p.level;
-      prepared = p.prepared;
-    }) };
+    ghost view = { λ p.
+        owned F.layout (whole_fields F.layout p.words.items p.frames p.levels p.head p.held p.path p.level p.prepared) };
 
-    ghost invariant = { λ p. IsOwner F.layout (record {
-      words = p.words.items;
-      frames = p.frames;
-      levels = p.levels;
-      first = 0;
-      count = input_pages F.layout;
-      head = p.head;
-      held = p.held;
-      path = p.path;
-      level = p.level;
-      prepared = p.prepared;
-    }) };
+    ghost invariant = { λ p.
+        IsOwner F.layout (whole_fields F.layout p.words.items p.frames p.levels p.head p.held p.path p.level p.prepared) };
 }
 
 /// Chains the frames from 1 to `hold`: the tag of each names the next one, and the last one's names none.
