@@ -16,10 +16,6 @@ named_back (Some k) =
     let back : (1 + 4 * (k + 1)) / 4 - 1 ≡ k = omega arith in
     ap (λ (b : Bool). if b then None else Some ((1 + 4 * (k + 1)) / 4 - 1)) no ∙ ap (λ (m : ℕ). Some m) back
 
--- two frames that held tags name are one where the tags are
-pub one_named : (a b : Option ℕ) → held_word a ≡ held_word b → a ≡ b
-one_named a b e = sym (named_back a) ∙ ap next_named e ∙ named_back b
-
 -- a purse that is chained is the chain from its first frame
 pub chain_back : (words xs : List ℕ) → Chained words None xs → chain_of words (first_or None xs) (length xs) ≡ xs
 chain_back words [] c = refl

@@ -54,11 +54,8 @@ path_kept {path = path} same tops m = record {
 pub prepared_kept : {prepared : Option ℕ} {v u : View} → u.prepared ≡ v.prepared → PreparedIs prepared v → PreparedIs prepared u
 prepared_kept same m = record { is = ap prepared_frame same ∙ m.is; plain = subst IsPlain (sym same) m.plain }
 
-none_prepared : (o : Option Prepared) → o ≡ None → (prepared_frame o ≡ None) × IsPlain o
-none_prepared o e = (ap prepared_frame e, subst IsPlain (sym e) tt)
-
 pub prepared_none : {u : View} → u.prepared ≡ None → PreparedIs None u
-prepared_none e = record { is = (none_prepared _ e).0; plain = (none_prepared _ e).1 }
+prepared_none e = record { is = ap prepared_frame e; plain = subst IsPlain (sym e) tt }
 
 -- the path goes one table deeper
 pub path_deeper : {top top' : ℕ} {path : List ℕ} {level : ℕ} {v u : View} (x : Node) → u.path ≡ v.path ++ x ∷ [] → top' ≡ top → x.position.level + 1 ≡ level → PathIs top path level v →

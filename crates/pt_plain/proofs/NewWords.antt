@@ -1,12 +1,10 @@
 -- The words of a new space, and its view.
 use Rattle.std.proofs.Common.{◌≡◌, ℕ, zero, suc, ◌+◌, ◌*◌, ◌%◌, ◌<◌, ◌≤◌, List, [], ◌∷◌, length, refl, ap, sym, ◌∙◌, subst, arith, get_or-set_same, get_or-set_other, length-set}
-use Rattle.std.specs.Prelude.{Option, None, Some, slice_index, slice_set}
+use Rattle.std.specs.Prelude.{Option, None, slice_index, slice_set}
 use Rattle.pt_model.specs.Layout.{Layout, input_pages}
 use Rattle.pt_model.specs.Tables.{spine_position, starting_top}
-use Rattle.pt_model.specs.Words.{entry_place, frame_limit, placed_word, root_level, tag, word_count}
+use Rattle.pt_model.specs.Words.{entry_place, frame_limit, placed_word, root_level, word_count}
 use Rattle.pt_model.proofs.Places.{entry_within, tag_else}
-use mathlib.Core.Logic.{dite}
-use native.Mathlib.Decide.{ℕ_discrete}
 use Rattle.pt_format.specs.Laws.{IsLayout}
 use Rattle.pt_view.specs.declared.view.View.{View}
 use Rattle.pt_rule.specs.Tags.{first_or, held_word}
@@ -19,12 +17,6 @@ use Rattle.pt_plain.proofs.Matches.{Matches}
 use Rattle.pt_plain.proofs.Owners.{aside_none, span_whole}
 use Rattle.pt_plain.specs.Chains.{IsChain, IsKept, NamesNext}
 use Rattle.pt_plain.proofs.ReadBack.{owner, shows}
-
--- one frame more names the next
-pub names_more : (words : List ℕ) (frame : ℕ) → NamesNext words frame → 1 + frame < length words → NamesNext (slice_set words (1 + frame) (held_word (Some (frame + 1)))) (frame + 1)
-names_more words frame h within g low up = dite (ℕ_discrete g frame)
-    (λ e. subst (λ (k : ℕ). tag (slice_set words (1 + frame) (held_word (Some (frame + 1)))) k ≡ held_word (Some (k + 1))) (sym e) (get_or-set_same words (1 + frame) (held_word (Some (frame + 1))) 0 within))
-    (λ ne. tag_else words frame (held_word (Some (frame + 1))) g ne ∙ h g low (omega arith))
 
 -- one word more is another
 pub kept_more : (old words : List ℕ) (frame word : ℕ) → IsKept old words (frame + 1) → 1 ≤ frame → IsKept old (slice_set words (1 + frame) word) (frame + 2)
