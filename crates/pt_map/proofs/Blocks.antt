@@ -13,7 +13,9 @@ use Rattle.pt_model.specs.Tiling.{IsTiling}
 use Rattle.pt_format.specs.Laws.{IsLayout}
 use Rattle.pt_view.specs.declared.view.Piece.{Piece}
 use Rattle.pt_view.specs.Pieces.{add_piece, add_pieces, all_pieces, first_of, pieces_of, words_of}
-use Rattle.pt_walk.proofs.OverPage.{size_split}
+use Rattle.pt_model.proofs.Quotients.{size_split}
+use Rattle.pt_tile.proofs.Levels.{after}
+use Rattle.pt_tile.specs.Extents.{from}
 
 -- Pieces by their first pages: each at most at a page, each from a page on, each before a page, and rising from one.
 
@@ -120,7 +122,7 @@ run_under f b (suc n) low m h =
     some : (e k : ℕ) → e ≡ 2 ^ k → 0 < e
     some e k same = omega (arith, pow_pos k, same)
 
-module _ (f : Layout) (good : IsLayout f) (b : Block) where
+module _ {f : Layout} (good : IsLayout f) (b : Block) where
   block_pages : 2 ^ b.log2 ≡ words_of f b * pages_of_entry f (level_of_size f b.log2)
   block_pages =
       let bits : ℕ = f.index * level_of_size f b.log2 in
@@ -145,8 +147,8 @@ tiles_rise : (f : Layout) → IsLayout f → (prot : Prot) (s out left : ℕ) (b
 tiles_rise f good prot s out left [] t = tt
 tiles_rise f good prot s out left (b ∷ bs) t =
     let first : b.first ≡ s = ap (λ (c : Block). c.first) t.0 in
-    let whole = under_up_to f (s + 2 ^ b.log2) (pieces_of f b) (pieces_under f good b (s + 2 ^ b.log2) (omega arith)) in
-    rising_append f s (s + 2 ^ b.log2) (pieces_of f b) (all_pieces f bs) (omega arith) (pieces_rise f good b s (omega arith)) whole
+    let whole = under_up_to f (s + 2 ^ b.log2) (pieces_of f b) (pieces_under good b (s + 2 ^ b.log2) (omega arith)) in
+    rising_append f s (s + 2 ^ b.log2) (pieces_of f b) (all_pieces f bs) (omega arith) (pieces_rise good b s (omega arith)) whole
     (tiles_rise f good prot (s + 2 ^ b.log2) (out + 2 ^ b.log2) (left - 2 ^ b.log2) bs t.2)
 
 tiles_under : (f : Layout) → IsLayout f → (prot : Prot) (s out left : ℕ) (bs : List Block) → IsTiling f prot s out left bs → Under f (s + left) (all_pieces f bs)
@@ -155,7 +157,7 @@ tiles_under f good prot s out left (b ∷ bs) t =
     let first : b.first ≡ s = ap (λ (c : Block). c.first) t.0 in
     let fits = t.1.fits in
     let ends : s + 2 ^ b.log2 + (left - 2 ^ b.log2) ≡ s + left = omega arith in
-    under_append f (s + left) (pieces_of f b) (all_pieces f bs) (pieces_under f good b (s + left) (omega arith))
+    under_append f (s + left) (pieces_of f b) (all_pieces f bs) (pieces_under good b (s + left) (omega arith))
     (subst (λ (n : ℕ). Under f n (all_pieces f bs)) ends (tiles_under f good prot (s + 2 ^ b.log2) (out + 2 ^ b.log2) (left - 2 ^ b.log2) bs t.2))
 
 -- Blocks by their first pages.
@@ -219,12 +221,12 @@ in_order_lower m n [] le h = tt
 in_order_lower m n (b ∷ bs) le h = (let a = h.0 in omega arith, h.1)
 
 -- all the pieces of blocks in order begin from a page on
-module _ (f : Layout) (good : IsLayout f) where
+module _ {f : Layout} (good : IsLayout f) where
   pieces_from : (n : ℕ) (bs : List Block) → InOrder n bs → From f n (all_pieces f bs)
   pieces_from n [] h = tt
   pieces_from n (b ∷ bs) h =
       let low = h.0 in
-      from_append f n (pieces_of f b) (all_pieces f bs) (rising_from f n (pieces_of f b) (pieces_rise f good b n h.0))
+      from_append f n (pieces_of f b) (all_pieces f bs) (rising_from f n (pieces_of f b) (pieces_rise good b n h.0))
       (pieces_from n bs (in_order_lower n (end_of b) bs (omega arith) h.1))
 
   adds_behind : (prot : Prot) (s out left n : ℕ) (new : List Block) → IsTiling f prot s out left new → (old : List Block) (before : List Piece) →
@@ -241,7 +243,7 @@ module _ (f : Layout) (good : IsLayout f) where
         ap (λ (cs : List Block). cs ++ (b ∷ add_blocks bs (filter (λ (n : Block). not (nat_lt n.first b.first)) new))) (keeps_none b.first s (s + left) new low starts)
         ∙ ap (λ (cs : List Block). b ∷ add_blocks bs cs) (others_all b.first s (s + left) new low starts) in
         let more : UpTo f s (before ++ pieces_of f b) =
-        up_to_append f s before (pieces_of f b) up (under_up_to f s (pieces_of f b) (pieces_under f good b s earlier)) in
+        up_to_append f s before (pieces_of f b) up (under_up_to f s (pieces_of f b) (pieces_under good b s earlier)) in
         ap (λ (xs : List Piece). add_pieces f xs (all_pieces f new)) (sym (append_assoc before (pieces_of f b) (all_pieces f bs)))
         ∙ adds_behind prot s out left (end_of b) new t bs (before ++ pieces_of f b) order.1 apart.1 more
         ∙ append_assoc before (pieces_of f b) (all_pieces f (add_blocks bs new))

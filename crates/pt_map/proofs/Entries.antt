@@ -1,8 +1,9 @@
 -- The entries of a run of blocks: each has one word of one of its blocks, and all are in one table.
-use Rattle.std.proofs.Common.{◌≡◌, ℕ, zero, suc, ◌+◌, ◌-◌, ◌*◌, ◌/◌, ◌%◌, ◌^◌, ◌<◌, ◌≤◌, List, [], ◌∷◌, ◌++◌, inl, inr, refl, ap, sym, ◌∙◌, subst, arith, max}
-use Rattle.std.specs.Prelude.{◌↔◌, map}
+use Rattle.pt_model.proofs.Tops.{above_top, top_low}
+use Rattle.std.proofs.Common.{length, true, ◌≡◌, ℕ, zero, suc, ◌+◌, ◌-◌, ◌*◌, ◌/◌, ◌%◌, ◌^◌, ◌<◌, ◌≤◌, List, [], ◌∷◌, ◌++◌, inl, inr, refl, ap, sym, ◌∙◌, subst, arith, max, false}
+use Rattle.std.specs.Prelude.{◌↔◌, map, ◌==◌, nat_le}
 use Rattle.std.specs.List.{range_with_len}
-use Rattle.std.proofs.lemmas.Bool.{cases_lt}
+use Rattle.std.proofs.lemmas.Bool.{cases_lt, and_from, eq-eqb, false≢true, le-leb}
 use Rattle.std.proofs.lemmas.List.{map-append}
 use Rattle.std.proofs.lemmas.List.Sums.{fold-append}
 use Rattle.std.proofs.lemmas.List.FromFn.{map-range_with_len_more}
@@ -12,34 +13,35 @@ use Rattle.pt_model.specs.declared.position.Position.{Position}
 use Rattle.pt_model.specs.declared.block.Block.{Block}
 use Rattle.pt_model.specs.declared.block.Prot.{Prot}
 use Rattle.pt_model.specs.Layout.{Layout, IsLegalBlock, end_of, level_of_size, pages_of_entry, pages_of_table}
-use Rattle.pt_model.specs.Tables.{add_positions, all_needed, end_of_table, least_top, position_over}
+use Rattle.pt_model.specs.Tables.{all_needed, end_of_table, least_top, position_over, needed, is_spine, spine_position}
 use Rattle.pt_model.specs.Tiling.{IsGreatestSize, block_at, tiling}
 use Rattle.pt_model.specs.Sets.{IsSorted, IsAmong}
-use Rattle.pt_model.proofs.Positions.{member_adds, sorted_adds}
+use Rattle.pt_model.proofs.Positions.{sorted_adds, adds_are}
 use Rattle.pt_model.proofs.TilingFacts.{tiling_is, tiling_unique}
 use Rattle.pt_format.specs.Laws.{IsLayout}
 use Rattle.pt_format.specs.Words.{GoBy, MayBeLeaf, MayBeLeaves}
+use Rattle.pt_tile.specs.declared.extent.Extent.{Extent}
 use Rattle.pt_tile.specs.Runs.{run_blocks}
 use Rattle.pt_view.specs.declared.view.View.{View}
 use Rattle.pt_view.specs.declared.view.Piece.{Piece}
-use Rattle.pt_view.specs.Pieces.{IsOneOf, all_pieces, number_of, pieces_of, words_of}
+use Rattle.pt_view.specs.Pieces.{IsOneOf, all_pieces, number_of, pieces_of, words_of, entry_number}
+use Rattle.pt_walk.proofs.Cuts.{pages_few}
 use Rattle.pt_view.specs.Calls.{ArePieces, IsWritten, IsWrittenRun, MayPut, MayWrite, MayWriteRun, off_spine, pieces_at, top_over}
-use Rattle.pt_walk.specs.Walks.{entry_number}
 use Rattle.pt_num.proofs.Bits.{exponent_below}
-use Rattle.pt_walk.proofs.Quotients.{pages_few, quotient}
-use Rattle.pt_map.specs.Filled.{Filled, IsBlockOf, MayFill}
-use Rattle.pt_map.specs.Parts.{IsPart, blocks_of, needs, part_of, step, tiles}
+use Rattle.pt_model.proofs.Quotients.{quotient}
+use Rattle.pt_map.specs.Filled.{Filled, MayStore, MayStoreRun}
 use Rattle.pt_map.proofs.Fills.{may_part}
-use Rattle.pt_map.proofs.Firsts.{IsTile, tile_of}
-use Rattle.pt_map.proofs.Needs.{needs_any, needs_over, needs_page, over_needed}
-use Rattle.pt_map.proofs.Runs.{run_needs}
+use Rattle.pt_tile.proofs.FirstParts.{IsTile, tile_of}
+use Rattle.pt_map.proofs.Needs.{needs_any, needs_over, needs_page, over_needed, run_needs}
 use Rattle.pt_map.proofs.Puts.{piece_at, stands_not}
-use Rattle.pt_map.proofs.Steps.{one_greatest, outputs_few, step_greatest}
+use Rattle.pt_tile.proofs.FirstSizes.{outputs_few, size_greatest}
 use Rattle.pt_map.proofs.Ways.{positions, tables_way, way_tables}
 use Rattle.pt_map.proofs.Words.{first_whole, more_low, number_at, piece_number, size_is, word_is}
-use Rattle.pt_map.proofs.Among.{among_member, member_among}
-use Rattle.pt_map.proofs.Links.{keeps_absences}
 use Rattle.pt_map.proofs.Writes.{IsPut, among_off, block_part, may_leaf, may_put, may_write, put_filled, put_next, put_none, top_reaches}
+use Rattle.pt_tile.specs.Extents.{IsExtent, IsOneBlock, blocks_of, extent_of, first_size, tables_of, tiles}
+use Rattle.pt_tile.proofs.TileFacts.{one_greatest}
+use Rattle.pt_tile.proofs.Levels.{over_first}
+use Rattle.pt_view.proofs.Loads.{absences_here}
 
 -- block number `q` of a run, the piece of its entry number `e` where each block has so many words, and the pieces of
 -- the entries before entry `n`
@@ -109,7 +111,7 @@ all_entries f b m n words =
     ∙ run_pieces f b m words n 0 ∙ (λ i. all_pieces f (run_blocks n b.log2 b.prot (first i) (out i)))
 
 -- the blocks of a run
-in_run : (prot : Prot) (k n q first out : ℕ) → q < n → IsBlockOf (run_blocks n k prot first out) (block_at (first + q * 2 ^ k) k (out + q * 2 ^ k) prot)
+in_run : (prot : Prot) (k n q first out : ℕ) → q < n → IsOneBlock (run_blocks n k prot first out) (block_at (first + q * 2 ^ k) k (out + q * 2 ^ k) prot)
 in_run prot k zero q first out less = absurd (omega arith)
 in_run prot k (suc n) zero first out less =
     let a : first ≡ first + 0 * 2 ^ k = omega arith in
@@ -118,10 +120,10 @@ in_run prot k (suc n) zero first out less =
 in_run prot k (suc n) (suc q) first out less =
     let a : first + 2 ^ k + q * 2 ^ k ≡ first + suc q * 2 ^ k = omega arith in
     let b : out + 2 ^ k + q * 2 ^ k ≡ out + suc q * 2 ^ k = omega arith in
-    inr (subst (λ (c : Block). IsBlockOf (run_blocks n k prot (first + 2 ^ k) (out + 2 ^ k)) c) (λ i. block_at (a i) k (b i) prot) (in_run prot k n q (first + 2 ^ k) (out + 2 ^ k) (omega arith)))
+    inr (subst (λ (c : Block). IsOneBlock (run_blocks n k prot (first + 2 ^ k) (out + 2 ^ k)) c) (λ i. block_at (a i) k (b i) prot) (in_run prot k n q (first + 2 ^ k) (out + 2 ^ k) (omega arith)))
 
 -- A legal block is the tiling of its pages.
-module _ (f : Layout) (good : IsLayout f) (c : Block) (legal : IsLegalBlock f c) where
+module _ {f : Layout} (good : IsLayout f) (c : Block) (legal : IsLegalBlock f c) where
   greatest_alone : IsGreatestSize f c.first c.out (2 ^ c.log2) c.log2
   greatest_alone = record {
     legal = legal;
@@ -138,55 +140,77 @@ module _ (f : Layout) (good : IsLayout f) (c : Block) (legal : IsLegalBlock f c)
       ap (λ (n : ℕ). tiling f c.prot c.first c.out n) same
       ∙ tiling_unique f c.prot c.first c.out (2 ^ c.log2) _ _ (tiling_is f c.prot c.first c.out (2 ^ c.log2) good.has_pages (omega arith) (omega arith)) (refl, greatest_alone, none)
 
-  step_alone : IsPart f (block_part c) → step f (block_part c) ≡ c.log2
+  step_alone : IsExtent f (block_part c) → first_size f (block_part c) ≡ c.log2
   step_alone part =
       let same : end_of c - c.first ≡ 2 ^ c.log2 = omega arith in
-      one_greatest f c.first c.out (2 ^ c.log2) (step f (block_part c)) c.log2
-      (subst (λ (n : ℕ). IsGreatestSize f c.first c.out n (step f (block_part c))) same (step_greatest f good (block_part c) part)) greatest_alone
+      one_greatest f c.first c.out (2 ^ c.log2) (first_size f (block_part c)) c.log2
+      (subst (λ (n : ℕ). IsGreatestSize f c.first c.out n (first_size f (block_part c))) same (size_greatest good part)) greatest_alone
 
 -- A run that may be written from the path's last table.
-module _ (f : Layout) (good : IsLayout f) (tells : Type 0) (v : View) (b : Block) (count level : ℕ) (may : MayFill f v (part_of count b) level) (run : tiles f (part_of count b) ≡ blocks_of count b)
-    (here : level_of_size f b.log2 ≡ level) where
+module _ {f : Layout} (good : IsLayout f) {v : View} {b : Block} {count level : ℕ} (stores : MayStoreRun f v count b level) where
   abbrev pub bits : ℕ
   bits = b.log2 - f.index * level
 
-  a_tile : (c : Block) → IsBlockOf (blocks_of count b) c → IsTile f b.first (b.first + count * 2 ^ b.log2) c
-  a_tile c m = tile_of f good (part_of count b) may.at.part c (subst (λ (bs : List Block). IsBlockOf bs c) (sym run) m)
+  abbrev may : MayStore f v (extent_of count b) level
+  may = stores.may
+
+  abbrev run : tiles f (extent_of count b) ≡ blocks_of count b
+  run = stores.tiled
+
+  abbrev here : level_of_size f b.log2 ≡ level
+  here = stores.here
+
+  a_tile : (c : Block) → IsOneBlock (blocks_of count b) c → IsTile f b.first (b.first + count * 2 ^ b.log2) c
+  a_tile c m = tile_of good may.stands.at.extent c (subst (λ (bs : List Block). IsOneBlock bs c) (sym run) m)
 
   first_legal : 0 < count → IsLegalBlock f b
   first_legal some =
       let first : b.first + 0 * 2 ^ b.log2 ≡ b.first = omega arith in
       let out : b.out + 0 * 2 ^ b.log2 ≡ b.out = omega arith in
-      (a_tile (block_at b.first b.log2 b.out b.prot) (subst (λ (c : Block). IsBlockOf (blocks_of count b) c) (λ i. block_at (first i) b.log2 (out i) b.prot) (in_run b.prot b.log2 count 0 b.first b.out some))).legal
+      (a_tile (block_at b.first b.log2 b.out b.prot) (subst (λ (c : Block). IsOneBlock (blocks_of count b) c) (λ i. block_at (first i) b.log2 (out i) b.prot) (in_run b.prot b.log2 count 0 b.first b.out some))).legal
 
   -- the path's tables are those that it needs
-  needs_high : (p : Position) → IsAmong (needs f f.levels (part_of count b)) p → level ≤ p.level
+  needs_high : (p : Position) → IsAmong (tables_of f (extent_of count b)) p → level ≤ p.level
   needs_high p h =
       let low = run_needs f good b.prot b.log2 count b.first b.out p (λ c m. (a_tile c m).legal)
       (needs_any f f.levels (blocks_of count b) p (subst (λ (bs : List Block). IsAmong (all_needed f f.levels bs) p) run h)) in omega arith
 
-  way_needs : (p : Position) → IsAmong (positions v.path) p ↔ IsAmong (needs f f.levels (part_of count b)) p
-  way_needs p = (
-    (λ h.
-        let r = way_tables f b.first f.levels level v.path may.way may.depth p h in
-        let wide : f.index * (level + 1) ≤ f.index * (p.level + 1) = mul-le f.index (level + 1) f.index (p.level + 1) (omega arith) (let low = r.0 in omega arith) in
-        subst (IsAmong (needs f f.levels (part_of count b))) r.2 (over_needed f good (part_of count b) may.at.part p.level (let low = may.at.low in omega arith) r.1)),
-    (λ h.
-        let high = needs_high p h in
-        let over = needs_over f good (part_of count b) may.at.part level may.at.range.under p h high in
-        let page = needs_page f good (part_of count b) may.at.part p h in
-        subst (IsAmong (positions v.path)) over (tables_way f b.first f.levels level v.path may.way may.depth p.level high page.3)),
-  )
+  way_needs : (p : Position) → is_spine v.levels p ≡ false → IsAmong (positions v.path) p ↔ IsAmong (tables_of f (extent_of count b)) p
+  way_needs p off =
+      let x : Extent = extent_of count b in
+      let long : length v.path + level ≡ length v.path + level = omega arith in (
+        (λ h.
+            let r = way_tables f b.first (length v.path + level) level v.path may.stands.way long p h in
+            let most = may.stands.below in
+            let wide : f.index * (level + 1) ≤ f.index * (p.level + 1) = mul-le f.index (level + 1) f.index (p.level + 1) (omega arith) (let low = r.0 in omega arith) in
+            subst (IsAmong (tables_of f x)) r.2 (over_needed good may.stands.at.extent p.level (let low = may.stands.at.low in omega arith) (let n = r.1 in omega arith))),
+        (λ h.
+            let high = needs_high p h in
+            let over : position_over f x.first p.level ≡ p = needs_over good may.stands.at.extent level may.stands.at.range.under p h high in
+            let page = needs_page good may.stands.at.extent p h in
+            elim (cases_lt p.level (length v.path + level)) [
+              | inl on ↦ subst (IsAmong (positions v.path)) over (tables_way f b.first (length v.path + level) level v.path may.stands.way long p.level high on)
+              | inr above ↦ absurd (
+                  let top = may.stands.top in let root = may.stands.high in
+                  let reach = above_top f v.levels x.end p.level page.3 (omega arith) in
+                  let least = top_low f v.levels x.end in let some = may.stands.at.extent.some in
+                  let spine : is_spine v.levels (spine_position p.level) ≡ true =
+                  and_from (nat_le (v.levels - 1) p.level) (0 == 0) (le-leb (v.levels - 1) p.level (omega arith)) (eq-eqb 0 0 refl) in
+                  let is : spine_position p.level ≡ p = sym (over_first f x.first p.level (omega arith)) ∙ over in
+                  false≢true (sym off ∙ subst (λ (q : Position). is_spine v.levels q ≡ true) is spine))
+            ]),
+      )
 
   -- none of it is below the level
-  pub none_lower : (p : Position) → IsAmong (needs f f.levels (part_of count b)) p → p.level < level → ⊥
+  pub none_lower : (p : Position) → IsAmong (tables_of f (extent_of count b)) p → p.level < level → ⊥
   none_lower p h low = let high = needs_high p h in omega arith
 
   -- all of it was written
-  pub run_filled : (w : View) (words : ℕ) → words ≡ count * 2 ^ bits → IsPut f tells v w (pieces_to b (2 ^ bits) words) (positions v.path) → Filled f tells v w (blocks_of count b) (needs f f.levels (part_of count b))
-  run_filled w words all put =
-      put_filled f tells v w (pieces_to b (2 ^ bits) words) (blocks_of count b) (needs f f.levels (part_of count b))
-      (ap (pieces_to b (2 ^ bits)) all ∙ all_entries f b bits count (ap (λ (l : ℕ). 2 ^ (b.log2 - f.index * l)) here)) way_needs put
+  module _ {tells : Type 0} {w : View} (words : ℕ) (all : words ≡ count * 2 ^ bits) (put : IsPut f tells v w (pieces_to b (2 ^ bits) words) (positions v.path)) where
+    pub run_filled : Filled f tells v w (blocks_of count b) (tables_of f (extent_of count b))
+    run_filled =
+        put_filled f tells v w (pieces_to b (2 ^ bits) words) (blocks_of count b) (tables_of f (extent_of count b))
+        (ap (pieces_to b (2 ^ bits)) all ∙ all_entries f b bits count (ap (λ (l : ℕ). 2 ^ (b.log2 - f.index * l)) here)) way_needs put
 
   -- An entry of it.
   module _ (e : ℕ) (less : e < count * 2 ^ bits) where
@@ -209,38 +233,38 @@ module _ (f : Layout) (good : IsLayout f) (tells : Type 0) (v : View) (b : Block
     split : e / 2 ^ bits * 2 ^ bits + e % 2 ^ bits ≡ e
     split = let s = shr_split e bits in omega arith
 
-    member : IsBlockOf (blocks_of count b) block
+    member : IsOneBlock (blocks_of count b) block
     member = in_run b.prot b.log2 count (e / 2 ^ bits) b.first b.out q_low
 
     legal : IsLegalBlock f block
     legal = (a_tile block member).legal
 
     pub one : tiles f (block_part block) ≡ block ∷ []
-    one = tile_alone f good block legal
+    one = tile_alone good block legal
 
-    part : IsPart f (block_part block)
+    part : IsExtent f (block_part block)
     part = record {
       some = (let some = pow_pos b.log2 in omega arith);
       in_input = legal.in_input;
       in_output = (let output = legal.in_output in omega arith);
-      stated = may.at.part.stated;
+      stated = may.stands.at.extent.stated;
     }
 
-    pub may_block : MayFill f v (block_part block) level
+    pub may_block : MayStore f v (block_part block) level
     may_block =
         let t = a_tile block member in
         let low : f.index * (level + 1) ≡ f.index * level + f.index = omega arith in
-        let same = step_alone f good block legal part in
-        let less = more_low f good block legal level here in
-        let some = size_is f good block legal level here in
-        may_part f good v (part_of count b) level may (block_part block) part t.from t.to (omega arith)
-        (λ c m. elim (subst (λ (bs : List Block). IsBlockOf bs c) one m) [
-          | inl is ↦ subst (IsBlockOf (tiles f (part_of count b))) is (subst (λ (bs : List Block). IsBlockOf bs block) (sym run) member)
+        let same = step_alone good block legal part in
+        let less = more_low good block legal level here in
+        let some = size_is good block legal level here in
+        may_part good may part t.from t.to (omega arith)
+        (λ c m. elim (subst (λ (bs : List Block). IsOneBlock bs c) one m) [
+          | inl is ↦ subst (IsOneBlock (tiles f (extent_of count b))) is (subst (λ (bs : List Block). IsOneBlock bs block) (sym run) member)
           | inr none ↦ absurd none
         ])
 
     pages_are : 2 ^ b.log2 ≡ 2 ^ bits * pages_of_entry f level
-    pages_are = ap (λ k. 2 ^ k) (size_is f good block legal level here) ∙ pow-add 2 bits (f.index * level)
+    pages_are = ap (λ k. 2 ^ k) (size_is good block legal level here) ∙ pow-add 2 bits (f.index * level)
 
     -- the first page under it
     page_is : block.first + e % 2 ^ bits * pages_of_entry f level ≡ b.first + e * pages_of_entry f level
@@ -251,7 +275,7 @@ module _ (f : Layout) (good : IsLayout f) (tells : Type 0) (v : View) (b : Block
         let whole = ap (λ k. k * pages_of_entry f level) split in omega arith
 
     first_whole_here : b.first ≡ b.first / pages_of_entry f level * pages_of_entry f level
-    first_whole_here = first_whole f good b (first_legal (let low = q_low in omega arith)) level here
+    first_whole_here = first_whole good b (first_legal (let low = q_low in omega arith)) level here
 
     -- the entries are in one table
     entry_low : entry_number f level b.first + e < 2 ^ f.index
@@ -275,7 +299,7 @@ module _ (f : Layout) (good : IsLayout f) (tells : Type 0) (v : View) (b : Block
           let some : 0 < size = pow_pos (f.index * level) in
           let pages : 2 ^ b.log2 ≡ 2 ^ bits * size = pages_are in
           let all : count * 2 ^ b.log2 ≡ count * 2 ^ bits * size = ap (λ k. count * k) pages ∙ (let g : count * (2 ^ bits * size) ≡ count * 2 ^ bits * size = omega arith in g) in
-          let under = may.at.range.under in omega arith)
+          let under = may.stands.at.range.under in omega arith)
     ]
 
     pub number_low : entry_number f level b.first + e < 2 ^ f.index
@@ -292,14 +316,14 @@ module _ (f : Layout) (good : IsLayout f) (tells : Type 0) (v : View) (b : Block
         ∙ mod_low (m / 2 ^ f.index) f.index (m % 2 ^ f.index + e) low
 
     pub number_is : entry_number f level block.first + e % 2 ^ bits ≡ entry_number f level b.first + e
-    number_is = sym (number_at f good block legal level here (e % 2 ^ bits) r_low) ∙ ap (entry_number f level) page_is ∙ entry_is
+    number_is = sym (number_at good block legal level here (e % 2 ^ bits) r_low) ∙ ap (entry_number f level) page_is ∙ entry_is
 
     -- the entry at which its piece stands
     pub stands_at_number : number_of f (piece_in b (2 ^ bits) e) ≡ entry_number f level b.first + e
-    stands_at_number = piece_number f good block legal level here (e % 2 ^ bits) r_low ∙ number_is
+    stands_at_number = piece_number good block legal level here (e % 2 ^ bits) r_low ∙ number_is
 
     pub leaf_in : MayBeLeaf f level b.log2 (b.out + e / 2 ^ bits * 2 ^ b.log2) b.prot (e % 2 ^ bits)
-    leaf_in = may_leaf f good tells v block level may_block one here (e % 2 ^ bits) r_low
+    leaf_in = may_leaf good block may_block one here (e % 2 ^ bits) r_low
 
     -- the output page of its block
     pub out_few : b.out + e / 2 ^ bits * 2 ^ b.log2 ≤ 2 ^ 52
@@ -310,7 +334,7 @@ module _ (f : Layout) (good : IsLayout f) (tells : Type 0) (v : View) (b : Block
     | inl some ↦ some
     | inr none ↦ absurd (
         let zero : count * 2 ^ b.log2 ≡ 0 = (let e : count ≡ 0 = omega arith in ap (λ (n : ℕ). n * 2 ^ b.log2) e ∙ (let z : 0 * 2 ^ b.log2 ≡ 0 = omega arith in z)) in
-        let some = may.at.part.some in omega arith)
+        let some = may.stands.at.extent.some in omega arith)
   ]
 
   pub first_legal_here : IsLegalBlock f b
@@ -350,10 +374,10 @@ module _ (f : Layout) (good : IsLayout f) (tells : Type 0) (v : View) (b : Block
   module _ (number word step : ℕ) (at : number ≡ entry_number f level b.first) (first : word ≡ f.leaf level b.log2 b.out b.prot 0) (by : GoBy f level b.log2 b.out b.prot count step) where
     pub are_pieces : ArePieces f v number (count * 2 ^ bits) word step (piece_in b (2 ^ bits))
     are_pieces = record {
-      word_is = λ e less. word_is f good (block e less) (legal e less) level here (e % 2 ^ bits) ∙ by.goes e less ∙ ap (λ (n : ℕ). n + e * step) (sym first);
+      word_is = λ e less. word_is good (block e less) (legal e less) level here (e % 2 ^ bits) ∙ by.goes e less ∙ ap (λ (n : ℕ). n + e * step) (sym first);
       may = λ e less.
           subst (λ (k : ℕ). MayPut f v k (piece_in b (2 ^ bits) e)) (number_is e less ∙ (let z : entry_number f level b.first + e ≡ number + e = omega arith in z))
-          (may_put f good tells v (block e less) level (may_block e less) (one e less) here v (e % 2 ^ bits) (r_low e less) [] [] (put_none f tells v)
+          (may_put good (block e less) (may_block e less) (one e less) here (e % 2 ^ bits) (r_low e less) (put_none f (Unit {0}) v)
           (λ p h. absurd (let n : 0 < 0 = h in omega arith)) (λ x h. absurd h));
     }
 
@@ -369,7 +393,7 @@ module _ (f : Layout) (good : IsLayout f) (tells : Type 0) (v : View) (b : Block
     top_kept : (n : ℕ) → n ≤ count * 2 ^ bits → top_over f v.levels v.top (pieces_to b (2 ^ bits) n) ≡ v.top
     top_kept zero few = refl
     top_kept (suc n) few =
-        let reach = top_reaches f good tells v (block n (omega arith)) level (may_block n (omega arith)) (one n (omega arith)) here in
+        let reach = top_reaches good (block n (omega arith)) (may_block n (omega arith)) (one n (omega arith)) here in
         let more : pieces_to b (2 ^ bits) (suc n) ≡ pieces_to b (2 ^ bits) n ++ piece_in b (2 ^ bits) n ∷ [] =
         ap (pieces_to b (2 ^ bits)) (let e : suc n ≡ n + 1 = omega arith in e) ∙ map-range_with_len_more (piece_in b (2 ^ bits)) 0 n n (let z : 0 + n ≡ n = omega arith in z) in
         ap (top_over f v.levels v.top) more
@@ -378,36 +402,36 @@ module _ (f : Layout) (good : IsLayout f) (tells : Type 0) (v : View) (b : Block
         ∙ (let e : max v.top (least_top f v.levels (end_of (block n (omega arith)))) ≡ v.top = omega arith in e)
 
     -- they were written
-    pub put_run : (w : View) → IsWrittenRun f tells number (count * 2 ^ bits) word step v w → IsPut f tells v w (pieces_to b (2 ^ bits) (count * 2 ^ bits)) (positions v.path)
-    put_run w written = record {
-      range = written.range;
-      purse = written.purse;
-      path = written.path;
-      prepared = written.prepared;
-      top = written.top (piece_in b (2 ^ bits)) are_pieces ∙ top_kept (count * 2 ^ bits) (let e : count * 2 ^ bits ≤ count * 2 ^ bits = omega arith in e);
-      pieces = written.pieces (piece_in b (2 ^ bits)) are_pieces;
-      tables = λ p.
-          let m = member_adds (off_spine v.levels v.path) v.tables p in
-          let o = among_off v.levels v.path p in (
-            (λ h. elim (m.0 (among_member (add_positions v.tables (off_spine v.levels v.path)) p (subst (λ (ps : List Position). IsAmong ps p) written.tables h))) [
-              | inl was ↦ inl (member_among v.tables p was)
-              | inr now ↦ inr (o.0 (member_among (off_spine v.levels v.path) p now))
-            ]),
-            (λ h. subst (λ (ps : List Position). IsAmong ps p) (sym written.tables) (member_among (add_positions v.tables (off_spine v.levels v.path)) p (m.1 (elim h [
-              | inl was ↦ inl (among_member v.tables p was)
-              | inr k ↦ inr (among_member (off_spine v.levels v.path) p (o.1 k))
-            ])))),
-          );
-      in_order = λ s. subst IsSorted (sym written.tables) (sorted_adds (off_spine v.levels v.path) v.tables s);
-      busy = written.busy;
-      known = written.known;
-      told = λ t. ((written.told t).0, written.stores t (piece_in b (2 ^ bits)) are_pieces);
-      absent = λ t. keeps_absences v w (written.told t).1;
-    }
+    module _ {tells : Type 0} {w : View} (written : IsWrittenRun f tells number (count * 2 ^ bits) word step v w) where
+      pub put_run : IsPut f tells v w (pieces_to b (2 ^ bits) (count * 2 ^ bits)) (positions v.path)
+      put_run = record {
+        range = written.range;
+        purse = written.purse;
+        path = written.path;
+        prepared = written.prepared;
+        top = written.top (piece_in b (2 ^ bits)) are_pieces ∙ top_kept (count * 2 ^ bits) (let e : count * 2 ^ bits ≤ count * 2 ^ bits = omega arith in e);
+        pieces = written.pieces (piece_in b (2 ^ bits)) are_pieces;
+        tables = λ p.
+            let m = adds_are (off_spine v.levels v.path) v.tables p in
+            let o = among_off v.levels v.path p in (
+              (λ h. elim (m.0 ((subst (λ (ps : List Position). IsAmong ps p) written.tables h))) [
+                | inl was ↦ inl (was)
+                | inr now ↦ inr (o.0 (now))
+              ]),
+              (λ h. subst (λ (ps : List Position). IsAmong ps p) (sym written.tables) ((m.1 (elim h [
+                | inl was ↦ inl (was)
+                | inr k ↦ inr ((o.1 k))
+              ])))),
+            );
+        in_order = λ s. subst IsSorted (sym written.tables) (sorted_adds (off_spine v.levels v.path) v.tables s);
+        busy = written.busy;
+        known = written.known;
+        told = λ t. ((written.told t).0, written.stores t (piece_in b (2 ^ bits)) are_pieces);
+        absent = λ t. absences_here (written.told t).1;
+      }
 
   -- The entries before it were written.
-  module _ (e : ℕ) (less : e < count * 2 ^ bits) (w : View) (needed : List Position) (put : IsPut f tells v w (pieces_to b (2 ^ bits) e) needed)
-      (few : (p : Position) → IsAmong needed p → IsAmong (positions v.path) p) where
+  module _ {tells : Type 0} (e : ℕ) (less : e < count * 2 ^ bits) {w : View} {needed : List Position} (put : IsPut f tells v w (pieces_to b (2 ^ bits) e) needed) (few : (p : Position) → IsAmong needed p → IsAmong (positions v.path) p) where
     none_there : (x : Piece) → IsOneOf (pieces_to b (2 ^ bits) e) x → pieces_at f (position_over f (block e less).first level) (entry_number f level (block e less).first + e % 2 ^ bits) (x ∷ []) ≡ 0
     none_there x h =
         let r = one_mapped (piece_in b (2 ^ bits)) e 0 x h in
@@ -416,14 +440,14 @@ module _ (f : Layout) (good : IsLayout f) (tells : Type 0) (v : View) (b : Block
         (stands_not f (position_over f (block e less).first level) (entry_number f level (block e less).first + e % 2 ^ bits) (piece_in b (2 ^ bits) r.0)
         (λ t n. (let there = stands_at_number r.0 (omega arith) in let at = number_is e less in omega arith)))
 
-    pub may_store : (number word : ℕ) → number ≡ entry_number f level b.first → word ≡ f.leaf level b.log2 (b.out + e / 2 ^ bits * 2 ^ b.log2) b.prot (e % 2 ^ bits) → MayWrite f w (number + e) word
-    may_store number word n is =
-        may_write f good tells v (block e less) level (may_block e less) (one e less) here w (e % 2 ^ bits) (r_low e less) (pieces_to b (2 ^ bits) e) needed put few none_there (number + e) word
+    pub may_write_entry : (number word : ℕ) → number ≡ entry_number f level b.first → word ≡ f.leaf level b.log2 (b.out + e / 2 ^ bits * 2 ^ b.log2) b.prot (e % 2 ^ bits) → MayWrite f w (number + e) word
+    may_write_entry number word n is =
+        may_write good (block e less) (may_block e less) (one e less) here (e % 2 ^ bits) (r_low e less) put few none_there (number + e) word
         (number_is e less ∙ (let z : entry_number f level b.first + e ≡ number + e = omega arith in z)) is
 
     pub put_entry : (number word : ℕ) → number ≡ entry_number f level b.first → word ≡ f.leaf level b.log2 (b.out + e / 2 ^ bits * 2 ^ b.log2) b.prot (e % 2 ^ bits) →
         (u : View) → IsWritten f tells (number + e) word w u → IsPut f tells v u (pieces_to b (2 ^ bits) (e + 1)) (positions v.path)
     put_entry number word n is u written =
         subst (λ (xs : List Piece). IsPut f tells v u xs (positions v.path)) (sym (map-range_with_len_more (piece_in b (2 ^ bits)) 0 e e (let z : 0 + e ≡ e = omega arith in z)))
-        (put_next f good tells v (block e less) level (may_block e less) (one e less) here w (e % 2 ^ bits) (r_low e less) (pieces_to b (2 ^ bits) e) needed put few none_there (number + e) word
+        (put_next good (block e less) (may_block e less) (one e less) here (e % 2 ^ bits) (r_low e less) put few none_there (number + e) word
         (number_is e less ∙ (let z : entry_number f level b.first + e ≡ number + e = omega arith in z)) is u written)

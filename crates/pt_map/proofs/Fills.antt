@@ -1,4 +1,4 @@
--- Parts of a part are filled one after the other, and each under an entry from the table below.
+-- Parts of an extent are filled one after the other, and each under an entry from the table below.
 use Rattle.std.proofs.Common.{◌≡◌, ℕ, zero, suc, ◌+◌, ◌-◌, ◌*◌, ◌/◌, ◌<◌, ◌≤◌, List, [], ◌∷◌, ◌++◌, length, true, false, inl, inr, refl, ap, sym, ◌∙◌, subst, arith, append_assoc, length-append}
 use Rattle.std.specs.Prelude.{◌⊎◌, ◌↔◌, Some, map, nat_lt}
 use Rattle.std.specs.List.{range_with_len}
@@ -10,45 +10,51 @@ use Rattle.pt_model.specs.declared.block.Block.{Block}
 use Rattle.pt_model.specs.Layout.{Layout, level_of_size, pages_of_table}
 use Rattle.pt_model.specs.Sets.{IsSorted, IsAmong}
 use Rattle.pt_model.specs.Tables.{add_position, all_needed, end_of_table, is_spine, position_over}
-use Rattle.pt_model.proofs.Positions.{member_add, sorted_add}
+use Rattle.pt_model.proofs.Positions.{sorted_add, among_filtered, among_passes, added_are, among_one}
+use Rattle.pt_model.proofs.Quotients.{entry_is_table}
 use Rattle.pt_format.specs.Laws.{IsLayout}
 use Rattle.pt_view.specs.declared.view.View.{View}
 use Rattle.pt_view.specs.declared.view.Node.{Node}
 use Rattle.pt_view.specs.declared.view.Piece.{Piece}
 use Rattle.pt_view.specs.declared.view.Change.{Change}
 use Rattle.pt_view.specs.declared.view.Change.TheVariants.{Written}
-use Rattle.pt_view.specs.Pieces.{IsOneOf, add_pieces, all_pieces, pieces_of, words_of}
-use Rattle.pt_view.specs.Calls.{above, left, lowest, pieces_at, with_table}
-use Rattle.pt_walk.specs.Walks.{IsWayDown, entry_number}
-use Rattle.pt_walk.proofs.Loads.{above_snoc, adds_absences_on, lowest_snoc, same_range_on}
-use Rattle.pt_walk.proofs.Quotients.{entry_is_table}
-use Rattle.pt_map.specs.declared.part.Part.{Part}
-use Rattle.pt_map.specs.Filled.{Filled, HasNoPiece, HasRoom, IsBlockOf, IsDeeper, IsTableIn, MayFill, MayGoInto, next_table}
-use Rattle.pt_map.specs.Parts.{IsEntryPart, IsFirstTo, IsPart, from, needs, needs_below, step, tiles}
-use Rattle.pt_map.proofs.Among.{among_filtered, among_member, among_passes, member_among}
-use Rattle.pt_map.proofs.Firsts.{block_left, block_right, cut_part, cut_step, first_block, first_from, first_level, first_split, first_to, rest_low, rest_part, tile_of}
-use Rattle.pt_map.proofs.Links.{among_one, keeps_absences}
-use Rattle.pt_map.proofs.Needs.{needs_append, needs_over, needs_page, over_needed, same_table}
-use Rattle.pt_map.proofs.Puts.{add_append, all_append, at_adds, piece_at}
+use Rattle.pt_view.specs.Pieces.{IsOneOf, add_pieces, all_pieces, pieces_of, words_of, entry_number}
+use Rattle.pt_view.proofs.Stays.{range_on}
+use Rattle.pt_view.proofs.Loads.{absences_on, absences_here}
+use Rattle.pt_view.proofs.Paths.{front_snoc, lowest_snoc}
+use Rattle.pt_view.proofs.Members.{all_pieces_append}
+use Rattle.pt_view.specs.Calls.{left, lowest, pieces_at, with_table, all_but_last}
+use Rattle.pt_walk.specs.Walks.{IsWayDown}
+use Rattle.pt_tile.specs.declared.extent.Extent.{Extent}
+use Rattle.pt_map.specs.Filled.{Filled, HasNoPiece, HasRoom, IsDeeper, IsTableIn, MayStore, MayGoInto, next_table}
+use Rattle.pt_tile.proofs.FirstParts.{block_left, block_right, cut_part, cut_step, first_block, first_from, first_level, first_split, first_to, low_after, rest_part, tile_of}
+use Rattle.pt_map.proofs.Needs.{needs_append, needs_over, needs_page, over_needed}
+use Rattle.pt_map.proofs.Puts.{add_append, at_adds, piece_at}
 use Rattle.pt_map.proofs.Spent.{room_part}
-use Rattle.pt_map.proofs.Ways.{way_moves, way_on}
-use Rattle.pt_map.proofs.Words.{past_elsewhere}
+use Rattle.pt_map.proofs.Words.{past_elsewhere, more}
+use Rattle.pt_map.specs.Stands.{IsEntryExtent}
+use Rattle.pt_tile.specs.Extents.{IsExtent, IsFirstTo, IsOneBlock, first_size, tables_below, tables_of, tiles, up_to, from}
+use Rattle.pt_map.proofs.Stand.{Keeps, keeps_here, stands_inside, stands_moves}
 
 -- Needed positions below a level.
 
-pub below_has : (f : Layout) (levels level : ℕ) (x : Part) (p : Position) → IsAmong (needs f levels x) p → p.level < level → IsAmong (needs_below f levels x level) p
-below_has f levels level x p h low = among_passes (λ q. nat_lt q.level level) (needs f levels x) p h (lt-ltb p.level level low)
+pub below_has : (f : Layout) (level : ℕ) (x : Extent) (p : Position) → IsAmong (tables_of f x) p → p.level < level → IsAmong (tables_below f x level) p
+below_has f level x p h low = among_passes (λ q. nat_lt q.level level) (tables_of f x) p h (lt-ltb p.level level low)
 
-pub has_below : (f : Layout) (levels level : ℕ) (x : Part) (p : Position) → IsAmong (needs_below f levels x level) p → IsAmong (needs f levels x) p × (p.level < level)
-has_below f levels level x p h = let r = among_filtered (λ q. nat_lt q.level level) (needs f levels x) p h in (r.0, ltb-true p.level level r.1)
+pub has_below : (f : Layout) (level : ℕ) (x : Extent) (p : Position) → IsAmong (tables_below f x level) p → IsAmong (tables_of f x) p × (p.level < level)
+has_below f level x p h = let r = among_filtered (λ q. nat_lt q.level level) (tables_of f x) p h in (r.0, ltb-true p.level level r.1)
 
 -- What blocks need, of which those of a part come last.
-module _ (f : Layout) (levels : ℕ) (x z : Part) (xs : List Block) (split : tiles f x ≡ xs ++ tiles f z) where
-  pub needs_parts : (p : Position) → IsAmong (needs f levels x) p ↔ (IsAmong (all_needed f levels xs) p ⊎ IsAmong (needs f levels z) p)
-  needs_parts p = subst (λ (bs : List Block). IsAmong (all_needed f levels bs) p ↔ (IsAmong (all_needed f levels xs) p ⊎ IsAmong (needs f levels z) p)) (sym split) (needs_append f levels xs (tiles f z) p)
+module _ (f : Layout) (x z : Extent) (xs : List Block) (split : tiles f x ≡ xs ++ tiles f z) where
+  pub needs_parts : (p : Position) → IsAmong (tables_of f x) p ↔ (IsAmong (all_needed f f.levels xs) p ⊎ IsAmong (tables_of f z) p)
+  needs_parts p = subst (λ (bs : List Block). IsAmong (all_needed f f.levels bs) p ↔ (IsAmong (all_needed f f.levels xs) p ⊎ IsAmong (tables_of f z) p)) (sym split) (needs_append f f.levels xs (tiles f z) p)
 
-  pub below_rest : (level : ℕ) (p : Position) → IsAmong (needs_below f levels z level) p → IsAmong (needs_below f levels x level) p
-  below_rest level p h = let r = has_below f levels level z p h in below_has f levels level x p ((needs_parts p).1 (inr r.0)) r.1
+  pub below_rest : (level : ℕ) (p : Position) → IsAmong (tables_below f z level) p → IsAmong (tables_below f x level) p
+  below_rest level p h = let r = has_below f level z p h in below_has f level x p ((needs_parts p).1 (inr r.0)) r.1
+
+-- what was filled is kept
+pub filled_keeps : {f : Layout} {tells : Type 0} {v w : View} {blocks : List Block} {needed : List Position} → Filled f tells v w blocks needed → Keeps v w
+filled_keeps filled = record { range = filled.range; top = filled.top; prepared = filled.prepared; known = filled.known }
 
 -- Filling goes on.
 pub filled_none : (f : Layout) (tells : Type 0) (v : View) → Filled f tells v v [] []
@@ -64,7 +70,7 @@ filled_none f tells v = record {
   busy = λ x. ((λ h. h), (λ h. h));
   known = λ p h. h;
   told = λ t. (refl, sym (append_none v.stores));
-  absent = λ t. keeps_absences v v refl;
+  absent = λ t. absences_here refl;
 }
   where
     append_none : {A : Type 0} (xs : List A) → xs ++ [] ≡ xs
@@ -74,13 +80,13 @@ filled_none f tells v = record {
 pub filled_on : (f : Layout) (tells : Type 0) (u v w : View) (xs ys : List Block) (ps qs all : List Position) → ((p : Position) → IsAmong all p ↔ (IsAmong ps p ⊎ IsAmong qs p)) →
     Filled f tells u v xs ps → Filled f tells v w ys qs → Filled f tells u w (xs ++ ys) all
 filled_on f tells u v w xs ys ps qs all join a b = record {
-  range = same_range_on u v w a.range b.range;
+  range = range_on a.range b.range;
   path = b.path ∙ a.path;
   prepared = b.prepared ∙ a.prepared;
   end = b.end ∙ a.end;
   top = b.top ∙ a.top;
   pieces = b.pieces ∙ ap (λ (old : List Piece). add_pieces f old (all_pieces f ys)) a.pieces ∙ sym (add_append f u.pieces (all_pieces f xs) (all_pieces f ys))
-      ∙ ap (add_pieces f u.pieces) (sym (all_append f xs ys));
+      ∙ ap (add_pieces f u.pieces) (sym (all_pieces_append f xs ys));
   tables = λ p.
       let spine : is_spine v.levels p ≡ is_spine u.levels p = ap (λ (n : ℕ). is_spine n p) a.range.levels in (
         (λ h. elim ((b.tables p).0 h) [
@@ -101,13 +107,13 @@ filled_on f tells u v w xs ys ps qs all join a b = record {
   told = λ t. (
     (b.told t).0 ∙ (a.told t).0,
     (b.told t).1 ∙ ap (λ (cs : List Change). cs ++ map Written (all_pieces f ys)) (a.told t).1 ∙ append_assoc u.stores (map Written (all_pieces f xs)) (map Written (all_pieces f ys))
-        ∙ ap (λ (cs : List Change). u.stores ++ cs) (sym (map-append Written (all_pieces f xs) (all_pieces f ys)) ∙ ap (map Written) (sym (all_append f xs ys))),
+        ∙ ap (λ (cs : List Change). u.stores ++ cs) (sym (map-append Written (all_pieces f xs) (all_pieces f ys)) ∙ ap (map Written) (sym (all_pieces_append f xs ys))),
   );
-  absent = λ t. adds_absences_on u v w (a.absent t) (b.absent t);
+  absent = λ t. absences_on (a.absent t) (b.absent t);
 }
 
 -- a piece of a list's is one of a block of it
-in_pieces : (f : Layout) (bs : List Block) (x : Piece) → IsOneOf (all_pieces f bs) x → IsBlockOf bs x.block × (x.part < words_of f x.block)
+in_pieces : (f : Layout) (bs : List Block) (x : Piece) → IsOneOf (all_pieces f bs) x → IsOneBlock bs x.block × (x.part < words_of f x.block)
 in_pieces f [] x h = absurd h
 in_pieces f (b ∷ bs) x h = elim (one_of_either (pieces_of f b) (all_pieces f bs) x h) [
   | inl here ↦
@@ -130,120 +136,77 @@ in_pieces f (b ∷ bs) x h = elim (one_of_either (pieces_of f b) (all_pieces f b
 base_low : (f : Layout) (page level : ℕ) → (position_over f page level).base ≤ page
 base_low f page level = div-mul-le_self page (pages_of_table f level)
 
--- A part of what may be filled, whose blocks are among those of the whole.
-module _ (f : Layout) (good : IsLayout f) (v : View) (x : Part) (level : ℕ) (may : MayFill f v x level) (y : Part) (part : IsPart f y) (from_it : x.first ≤ y.first) (to_it : y.end ≤ x.end)
-    (low : step f y < f.index * (level + 1)) (among : (b : Block) → IsBlockOf (tiles f y) b → IsBlockOf (tiles f x) b) where
-  over_part : (high : ℕ) → level ≤ high → position_over f y.first high ≡ position_over f x.first high
-  over_part high above = same_table f good x may.at.part level may.at.range.under y.first high from_it (let some = part.some in omega arith) above
+-- A part of what may be stored, whose blocks are among those of the whole.
+module _ {f : Layout} (good : IsLayout f) {v : View} {x : Extent} {level : ℕ} (may : MayStore f v x level) {y : Extent} (part : IsExtent f y) (from_it : x.first ≤ y.first) (to_it : y.end ≤ x.end)
+    (low : first_size f y < f.index * (level + 1)) (among : (b : Block) → IsOneBlock (tiles f y) b → IsOneBlock (tiles f x) b) where
+  pub may_part : MayStore f v y level
+  may_part = record {
+    stands = stands_moves good may.stands part from_it to_it low (keeps_here v) refl;
+    no_piece = λ page high after before. may.no_piece page high (omega arith) (omega arith);
+    no_table = λ p h c m. may.no_table p h c (among c m);
+  }
 
-  pub may_part : MayFill f v y level
-  may_part =
-      let r = may.at.range in
-      let over = over_part level (omega arith) in
-      record {
-        at = record {
-          part = part;
-          range = record {
-            below = r.below;
-            over = (r.over.0, r.over.1 ∙ ap (λ (p : Position). Some (record { frame = r.over.0; position = p })) (sym over));
-            some = part.some;
-            under = subst (λ (p : Position). y.end ≤ end_of_table f p) (sym over) (let u = r.under in omega arith);
-            in_space = let u = r.in_space in omega arith;
-            from = let u = r.from in omega arith;
-            to = let u = r.to in omega arith;
-          };
-          low = low;
-          starts = may.at.starts;
-        };
-        no_piece = λ page high after before. may.no_piece page high (omega arith) (omega arith);
-        none = may.none;
-        no_table = λ p h c m. may.no_table p h c (among c m);
-        way = way_moves f x.first y.first f.levels level v.path over_part may.depth may.way;
-        depth = may.depth;
-        top = may.top;
-      }
-
--- The first part of what may be filled, and what is left of it then.
-module _ (f : Layout) (good : IsLayout f) (tells : Type 0) (v : View) (x : Part) (level : ℕ) (may : MayFill f v x level) (to : ℕ) (is : IsFirstTo f level x to) where
-  abbrev first : Part
-  first = record x { end = to }
+-- The first part of what may be stored, and what is left of it then.
+module _ {f : Layout} (good : IsLayout f) {v : View} {x : Extent} {level : ℕ} (may : MayStore f v x level) (to : ℕ) (is : IsFirstTo f level x to) where
+  abbrev first : Extent
+  first = up_to x to
 
   starts : x.first < to
-  starts = first_from f good x may.at.part level to is
+  starts = first_from good may.stands.at.extent level to is
 
   ends : to ≤ x.end
-  ends = first_to f good x may.at.part level to is
+  ends = first_to good may.stands.at.extent level to is
 
   split : tiles f x ≡ tiles f first ++ tiles f (from x to)
-  split = first_split f good x may.at.part level to is
+  split = first_split good may.stands.at.extent level to is
 
-  pub may_first : MayFill f v first level
+  pub may_first : MayStore f v first level
   may_first =
       let a = starts in
       let b = ends in
-      may_part f good v x level may first (cut_part f good x may.at.part to a b) (omega arith) b
-      (let s = cut_step f good x may.at.part to a b in let l = may.at.low in omega arith)
-      (λ c m. subst (λ (bs : List Block). IsBlockOf bs c) (sym split) (block_left (tiles f first) (tiles f (from x to)) c m))
+      may_part good may (cut_part good may.stands.at.extent to a b) (omega arith) b
+      (let s = cut_step good may.stands.at.extent to a b in let l = may.stands.at.low in omega arith)
+      (λ c m. subst (λ (bs : List Block). IsOneBlock bs c) (sym split) (block_left (tiles f first) (tiles f (from x to)) c m))
 
-  module _ (w : View) (filled : Filled f tells v w (tiles f first) (needs f f.levels first)) (after : to < x.end) where
-    over_rest : (high : ℕ) → level ≤ high → position_over f to high ≡ position_over f x.first high
-    over_rest high above = same_table f good x may.at.part level may.at.range.under to high (let a = starts in omega arith) after above
-
+  module _ {tells : Type 0} {w : View} (filled : Filled f tells v w (tiles f first) (tables_of f first)) (after : to < x.end) where
     no_piece_rest : HasNoPiece f w to x.end
     no_piece_rest page high low before =
         let a = starts in
         ap (pieces_at f (position_over f page high) (entry_number f high page)) filled.pieces
         ∙ at_adds f (position_over f page high) (entry_number f high page) (all_pieces f (tiles f first)) v.pieces (λ y m.
         let r = in_pieces f (tiles f first) y m in
-        let t = tile_of f good first may_first.at.part y.block r.0 in
-        past_elsewhere f good y.block t.legal (level_of_size f y.block.log2) refl y.part page high r.1 (let e = t.to in omega arith))
+        let t = tile_of good may_first.stands.at.extent y.block r.0 in
+        past_elsewhere good y.block t.legal (level_of_size f y.block.log2) refl y.part page high r.1 (let e = t.to in omega arith))
         ∙ may.no_piece page high (omega arith) before
 
-    no_table_rest : (p : Position) → IsAmong w.tables p → (c : Block) → IsBlockOf (tiles f (from x to)) c → ¬ IsTableIn f c p
+    no_table_rest : (p : Position) → IsAmong w.tables p → (c : Block) → IsOneBlock (tiles f (from x to)) c → ¬ IsTableIn f c p
     no_table_rest p h c m = λ inside. elim ((filled.tables p).0 h) [
-      | inl old ↦ may.no_table p old c (subst (λ (bs : List Block). IsBlockOf bs c) (sym split) (block_right (tiles f first) (tiles f (from x to)) c m)) inside
+      | inl old ↦ may.no_table p old c (subst (λ (bs : List Block). IsOneBlock bs c) (sym split) (block_right (tiles f first) (tiles f (from x to)) c m)) inside
       | inr new ↦
           let a = starts in
-          let r = needs_page f good first may_first.at.part p new.0 in
+          let r = needs_page good may_first.stands.at.extent p new.0 in
           let base : p.base ≤ r.0 = subst (λ (q : Position). q.base ≤ r.0) r.4 (base_low f r.0 p.level) in
-          let t = tile_of f good (from x to) (rest_part f good x may.at.part to (omega arith) after) c m in
+          let t = tile_of good (rest_part good may.stands.at.extent to (omega arith) after) c m in
           (let b = r.2 in let e = t.from in let i = inside.1 in omega arith)
     ]
 
-    pub may_rest : MayFill f w (from x to) level
+    pub may_rest : MayStore f w (from x to) level
     may_rest =
         let a = starts in
-        let r = may.at.range in
-        let over = over_rest level (omega arith) in
+        let extent = may.stands.at.extent in
         record {
-          at = record {
-            part = rest_part f good x may.at.part to (omega arith) after;
-            range = record {
-              below = r.below;
-              over = (r.over.0, ap lowest filled.path ∙ r.over.1 ∙ ap (λ (p : Position). Some (record { frame = r.over.0; position = p })) (sym over));
-              some = after;
-              under = subst (λ (p : Position). x.end ≤ end_of_table f p) (sym over) r.under;
-              in_space = r.in_space;
-              from = let e = filled.range.first in let low = r.from in omega arith;
-              to = let e = filled.range.first in let k = filled.range.count in let high = r.to in omega arith;
-            };
-            low = rest_low f good x may.at.part level to r.under a after;
-            starts = filled.range.levels ∙ may.at.starts;
-          };
+          stands = stands_moves good may.stands (rest_part good extent to (omega arith) after) (omega arith) (let z : x.end ≤ x.end = omega arith in z)
+              (low_after good extent level to may.stands.at.range.under a after) (filled_keeps filled) filled.path;
           no_piece = no_piece_rest;
-          none = filled.prepared ∙ may.none;
           no_table = no_table_rest;
-          way = subst (IsWayDown f to f.levels) (sym filled.path) (way_moves f x.first to f.levels level v.path over_rest may.depth may.way);
-          depth = ap (λ (path : List Node). length path + level) filled.path ∙ may.depth;
-          top = let e = filled.range.levels in let t = filled.top in let k = may.top in omega arith;
         }
 
 -- a table that was linked is one of the tables, unless it is of the spine
 with_cases : (levels : ℕ) (tables : List Position) (q p : Position) → IsAmong (with_table levels tables q) p → IsAmong tables p ⊎ ((p ≡ q) × (is_spine levels p ≡ false))
 with_cases levels tables q p h = elim (cases_Bool (is_spine levels q)) [
   | inl spine ↦ inl (subst (λ (ps : List Position). IsAmong ps p) (with_spine levels tables q spine) h)
-  | inr off ↦ elim ((member_add tables q p).0 (among_member (add_position tables q) p (subst (λ (ps : List Position). IsAmong ps p) (with_other levels tables q off) h))) [
-    | inl old ↦ inl (member_among tables p old)
+  | inr off ↦ elim ((added_are tables q p).0 ((subst (λ (ps : List Position). IsAmong ps p) (with_other levels tables q off) h))) [
+    | inl old ↦ inl (old)
     | inr same ↦ inr (same, ap (is_spine levels) same ∙ off)
   ]
 ]
@@ -257,76 +220,72 @@ with_cases levels tables q p h = elim (cases_Bool (is_spine levels q)) [
 with_old : (levels : ℕ) (tables : List Position) (q p : Position) → IsAmong tables p → IsAmong (with_table levels tables q) p
 with_old levels tables q p h = elim (cases_Bool (is_spine levels q)) [
   | inl spine ↦ rw spine h
-  | inr off ↦ rw off (member_among (add_position tables q) p ((member_add tables q p).1 (inl (among_member tables p h))))
+  | inr off ↦ rw off (((added_are tables q p).1 (inl (h))))
 ]
 
 with_sorted : (levels : ℕ) (tables : List Position) (q : Position) → IsSorted tables → IsSorted (with_table levels tables q)
 with_sorted levels tables q s = elim (cases_Bool (is_spine levels q)) [ inl spine ↦ rw spine s | inr off ↦ rw off (sorted_add tables q s) ]
 
--- A part under one entry is filled from the table below.
-module _ (f : Layout) (good : IsLayout f) (tells : Type 0) (v : View) (x : Part) (level : ℕ) (may : MayFill f v x level) (entry : IsEntryPart f v x level) where
-  pub level_some : 0 < level
-  level_some = let h = first_level f good x may.at.part level entry.lower in omega arith
+-- An extent under one entry is filled from the table below.
+module _ {f : Layout} (good : IsLayout f) {v : View} {x : Extent} {level : ℕ} (may : MayStore f v x level) (entry : IsEntryExtent f x level) where
+  pub some_level : 0 < level
+  some_level = let h = first_level good may.stands.at.extent level entry.lower in omega arith
 
   pub may_into : MayGoInto f v x.first level
   may_into =
-      let r = may.at.range in
+      let r = may.stands.at.range in
       let some = r.some in
       record {
-        high = level_some;
+        high = some_level;
         below = r.below;
         a_page = let input = r.in_space in omega arith;
         in_span = (r.from, let to = r.to in omega arith);
         over = r.over;
         no_piece = may.no_piece x.first level (omega arith) some;
-        none = may.none;
+        none = may.stands.none;
       }
 
   abbrev next : Position
   next = next_table f x.first level
 
-  lower : step f x < f.index * (level - 1 + 1)
-  lower = let some = level_some in let l = entry.lower in let e : level ≡ level - 1 + 1 = omega arith in subst (λ (k : ℕ). step f x < f.index * k) e l
+  next_needed : IsAmong (tables_of f x) next
+  next_needed = over_needed good may.stands.at.extent (level - 1) (let some = some_level in let e : level ≡ level - 1 + 1 = omega arith in subst (λ (k : ℕ). first_size f x < f.index * k) e entry.lower) (let b = may.stands.at.range.below in omega arith)
 
-  next_needed : IsAmong (needs f f.levels x) next
-  next_needed = over_needed f good x may.at.part (level - 1) lower (let b = may.at.range.below in omega arith)
+  pub next_below : IsAmong (tables_below f x level) next
+  next_below = below_has f level x next next_needed (let some = some_level in omega arith)
 
-  pub next_below : IsAmong (needs_below f f.levels x level) next
-  next_below = below_has f f.levels level x next next_needed (let some = level_some in omega arith)
+  pub room_into : (lacking : List Position) → HasRoom v (tables_below f x level) lacking → HasRoom v (next ∷ []) lacking
+  room_into lacking room = room_part v (tables_below f x level) (next ∷ []) lacking (λ p h. subst (IsAmong (tables_below f x level)) (sym (among_one p next h)) next_below) room
 
-  pub room_into : (lacking : List Position) → HasRoom v (needs_below f f.levels x level) lacking → HasRoom v (next ∷ []) lacking
-  room_into lacking room = room_part v (needs_below f f.levels x level) (next ∷ []) lacking (λ p h. subst (IsAmong (needs_below f f.levels x level)) (sym (among_one p next h)) next_below) room
+  pub below_inside : (p : Position) → IsAmong (tables_below f x (level - 1)) p → IsAmong (tables_below f x level) p
+  below_inside p h = let r = has_below f (level - 1) x p h in below_has f level x p r.0 (let low = r.1 in omega arith)
 
-  pub below_inside : (p : Position) → IsAmong (needs_below f f.levels x (level - 1)) p → IsAmong (needs_below f f.levels x level) p
-  below_inside p h = let r = has_below f f.levels (level - 1) x p h in below_has f f.levels level x p r.0 (let low = r.1 in omega arith)
-
-  -- the part lies under the next table
   under_next : x.end ≤ end_of_table f next
   under_next =
-      let one = subst (λ (t : ℕ). x.end ≤ (x.first / t + 1) * t) (entry_is_table f level level_some) entry.one in
+      let one = subst (λ (t : ℕ). x.end ≤ (x.first / t + 1) * t) (entry_is_table f level some_level) entry.one in
       omega arith
 
-  pub below_cases : (p : Position) → IsAmong (needs_below f f.levels x level) p → (p ≡ next) ⊎ IsAmong (needs_below f f.levels x (level - 1)) p
+  pub below_cases : (p : Position) → IsAmong (tables_below f x level) p → (p ≡ next) ⊎ IsAmong (tables_below f x (level - 1)) p
   below_cases p h =
-      let r = has_below f f.levels level x p h in
+      let r = has_below f level x p h in
       elim (cases_eq p.level (level - 1)) [
-        | inl at ↦ inl (sym (needs_over f good x may.at.part (level - 1) under_next p r.0 (omega arith)) ∙ ap (position_over f x.first) at)
-        | inr lower ↦ inr (below_has f f.levels (level - 1) x p r.0 (let low = r.1 in omega arith))
+        | inl at ↦ inl (sym (needs_over good may.stands.at.extent (level - 1) under_next p r.0 (omega arith)) ∙ ap (position_over f x.first) at)
+        | inr lower ↦ inr (below_has f (level - 1) x p r.0 (let low = r.1 in omega arith))
       ]
 
   -- no block of it has words in a table above the next one
-  next_outside : (b : Block) → IsBlockOf (tiles f x) b → ¬ IsTableIn f b next
+  next_outside : (b : Block) → IsOneBlock (tiles f x) b → ¬ IsTableIn f b next
   next_outside b m = λ inside.
-      let t = tile_of f good x may.at.part b m in
+      let t = tile_of good may.stands.at.extent b m in
       let from = t.from in
       let low = base_low f x.first (level - 1) in
       let base = inside.1 in
-      let size = first_block f good x may.at.part b m (omega arith) in
-      let small = first_level f good x may.at.part level entry.lower in
-      let same : level_of_size f b.log2 ≡ level_of_size f (step f x) = ap (level_of_size f) size in
+      let size = first_block good may.stands.at.extent b m (omega arith) in
+      let small = first_level good may.stands.at.extent level entry.lower in
+      let same : level_of_size f b.log2 ≡ level_of_size f (first_size f x) = ap (level_of_size f) size in
       let high = inside.0 in omega arith
 
-  module _ (w : View) (deeper : IsDeeper f tells v w x.first level) where
+  module _ {tells : Type 0} {w : View} (deeper : IsDeeper f tells v w x.first level) where
     tables_deeper : (p : Position) → IsAmong w.tables p → IsAmong v.tables p ⊎ ((p ≡ next) × (is_spine v.levels p ≡ false))
     tables_deeper p h = elim deeper.tables [
       | inl same ↦ inl (subst (λ (ps : List Position). IsAmong ps p) same h)
@@ -345,49 +304,28 @@ module _ (f : Layout) (good : IsLayout f) (tells : Type 0) (v : View) (x : Part)
     abbrev node : Node
     node = record { frame = deeper.path.0; position = next }
 
-    pub may_inside : MayFill f w x (level - 1)
-    may_inside =
-        let r = may.at.range in
-        let high = level_some in
-        record {
-          at = record {
-            part = may.at.part;
-            range = record {
-              below = let b = r.below in omega arith;
-              over = (deeper.path.0, ap lowest deeper.path.1 ∙ lowest_snoc v.path node);
-              some = r.some;
-              under = under_next;
-              in_space = r.in_space;
-              from = let e = deeper.range.first in let low = r.from in omega arith;
-              to = let e = deeper.range.first in let k = deeper.range.count in let to = r.to in omega arith;
-            };
-            low = lower;
-            starts = deeper.range.levels ∙ may.at.starts;
-          };
-          no_piece = λ page higher low before. ap (pieces_at f (position_over f page higher) (entry_number f higher page)) deeper.pieces ∙ may.no_piece page higher low before;
-          none = deeper.prepared ∙ may.none;
-          no_table = λ p h c m. elim (tables_deeper p h) [
-            | inl old ↦ may.no_table p old c m
-            | inr new ↦ (λ inside. next_outside c m (subst (IsTableIn f c) new.0 inside))
-          ];
-          way = subst (IsWayDown f x.first f.levels) (sym deeper.path.1) (way_on f x.first f.levels level v.path node may.depth refl may.way);
-          depth =
-              let e : length w.path ≡ length (v.path ++ node ∷ []) = ap length deeper.path.1 in
-              let a = length-append v.path (node ∷ []) in let d = may.depth in omega arith;
-          top = let e = deeper.range.levels in let t = deeper.top in let k = may.top in omega arith;
-        }
+    pub may_inside : MayStore f w x (level - 1)
+    may_inside = record {
+      stands = stands_inside good may.stands entry (record { range = deeper.range; top = deeper.top; prepared = deeper.prepared; known = λ p h. (deeper.known p).1 (inr h) })
+          node refl deeper.path.1;
+      no_piece = λ page higher low before. ap (pieces_at f (position_over f page higher) (entry_number f higher page)) deeper.pieces ∙ may.no_piece page higher low before;
+      no_table = λ p h c m. elim (tables_deeper p h) [
+        | inl old ↦ may.no_table p old c m
+        | inr new ↦ (λ inside. next_outside c m (subst (IsTableIn f c) new.0 inside))
+      ];
+    }
 
     -- the table below was filled, and is left
-    module _ (u : View) (filled : Filled f tells w u (tiles f x) (needs f f.levels x)) where
+    module _ {u : View} (filled : Filled f tells w u (tiles f x) (tables_of f x)) where
       pub may_leave : 0 < length u.path
       may_leave =
           let e : length u.path ≡ length (v.path ++ node ∷ []) = ap length (filled.path ∙ deeper.path.1) in
           let a = length-append v.path (node ∷ []) in omega arith
 
-      pub filled_left : Filled f tells v (left u) (tiles f x) (needs f f.levels x)
+      pub filled_left : Filled f tells v (left u) (tiles f x) (tables_of f x)
       filled_left = record {
-        range = (let r = same_range_on v w u deeper.range filled.range in record { frames = r.frames; levels = r.levels; first = r.first; count = r.count });
-        path = ap above (filled.path ∙ deeper.path.1) ∙ above_snoc v.path node;
+        range = (let r = range_on deeper.range filled.range in record { frames = r.frames; levels = r.levels; first = r.first; count = r.count });
+        path = ap all_but_last (filled.path ∙ deeper.path.1) ∙ front_snoc v.path node;
         prepared = filled.prepared ∙ deeper.prepared;
         end = filled.end ∙ deeper.end;
         top = filled.top ∙ deeper.top;
@@ -397,7 +335,7 @@ module _ (f : Layout) (good : IsLayout f) (tells : Type 0) (v : View) (x : Part)
               (λ h. elim ((filled.tables p).0 h) [
                 | inl before ↦ elim (tables_deeper p before) [
                   | inl old ↦ inl old
-                  | inr new ↦ inr (subst (IsAmong (needs f f.levels x)) (sym new.0) next_needed, new.1)
+                  | inr new ↦ inr (subst (IsAmong (tables_of f x)) (sym new.0) next_needed, new.1)
                 ]
                 | inr now ↦ inr (now.0, sym spine ∙ now.1)
               ]),
@@ -413,10 +351,10 @@ module _ (f : Layout) (good : IsLayout f) (tells : Type 0) (v : View) (x : Part)
           (filled.told t).0 ∙ (deeper.told t).0,
           (filled.told t).1 ∙ ap (λ (cs : List Change). cs ++ map Written (all_pieces f (tiles f x))) (deeper.told t).1,
         );
-        absent = λ t. adds_absences_on v w u (deeper.absent t) (filled.absent t);
+        absent = λ t. let a = absences_on (deeper.absent t) (filled.absent t) in record { facts = a.facts; are = a.are };
       }
 
-      pub knows_left : ((p : Position) → IsAmong (needs_below f f.levels x (level - 1)) p → IsAmong u.known p) → (p : Position) → IsAmong (needs_below f f.levels x level) p → IsAmong u.known p
+      pub knows_left : ((p : Position) → IsAmong (tables_below f x (level - 1)) p → IsAmong u.known p) → (p : Position) → IsAmong (tables_below f x level) p → IsAmong u.known p
       knows_left knows p h = elim (below_cases p h) [
         | inl same ↦ subst (IsAmong u.known) (sym same) (filled.known next ((deeper.known next).1 (inl refl)))
         | inr lower ↦ knows p lower

@@ -9,22 +9,24 @@ use Rattle.pt_model.specs.Book.{IsLawful, lowest_mapped, meets}
 use Rattle.pt_format.specs.Laws.{IsLayout}
 use Rattle.pt_view.specs.declared.view.View.{View}
 use Rattle.pt_view.specs.declared.view.Piece.{Piece}
-use Rattle.pt_view.specs.Pieces.{IsOneOf, all_pieces, pieces_of}
+use Rattle.pt_view.specs.Pieces.{IsOneOf, all_pieces, pieces_of, IsUnderPiece}
+use Rattle.pt_view.proofs.Members.{in_blocks, one_of_left, one_of_right}
+use Rattle.pt_view.proofs.Pieces.{ends_in_block}
+use Rattle.pt_walk.proofs.Descent.{own_piece}
 use Rattle.pt_view.specs.Views.{IsAtRest, book_of}
-use Rattle.pt_walk.specs.Walks.{IsFree, IsLowest, IsOwn, IsUnderPiece, OwnsAll}
-use Rattle.pt_walk.proofs.OverPage.{ends_in_block}
-use Rattle.pt_walk.proofs.Books.{in_blocks, one_of_left, one_of_right, piece_over}
-use Rattle.pt_map.specs.Filled.{IsBlockOf}
+use Rattle.pt_walk.specs.Walks.{IsFree, IsLowest, IsOwn, OwnsAll}
+use Rattle.pt_walk.proofs.Books.{piece_over}
 use Rattle.pt_map.proofs.Blocks.{Apart, InOrder, in_order_from}
+use Rattle.pt_tile.specs.Extents.{IsOneBlock}
 
 -- Blocks of a list.
 
-pub block_at_index : (bs : List Block) (b : Block) (k : ℕ) → k < length bs → slice_index_or bs k b ≡ b → IsBlockOf bs b
+pub block_at_index : (bs : List Block) (b : Block) (k : ℕ) → k < length bs → slice_index_or bs k b ≡ b → IsOneBlock bs b
 block_at_index [] b k less e = absurd (omega arith)
 block_at_index (c ∷ bs) b zero less e = inl e
 block_at_index (c ∷ bs) b (suc k) less e = inr (block_at_index bs b k (omega arith) e)
 
-pub piece_of_block : (f : Layout) (bs : List Block) (b : Block) (x : Piece) → IsBlockOf bs b → IsOneOf (pieces_of f b) x → IsOneOf (all_pieces f bs) x
+pub piece_of_block : (f : Layout) (bs : List Block) (b : Block) (x : Piece) → IsOneBlock bs b → IsOneOf (pieces_of f b) x → IsOneOf (all_pieces f bs) x
 piece_of_block f [] b x m h = absurd m
 piece_of_block f (c ∷ bs) b x m h = elim m [
   | inl e ↦ one_of_left (pieces_of f c) (all_pieces f bs) x (subst (λ (d : Block). IsOneOf (pieces_of f d) x) (sym e) h)
@@ -33,7 +35,7 @@ piece_of_block f (c ∷ bs) b x m h = elim m [
 
 -- no block of a list has a page of a range
 abbrev pub BlocksFree : List Block → (first end : ℕ) → Type 0
-BlocksFree bs first end = (b : Block) → IsBlockOf bs b → (page : ℕ) → first ≤ page → page < end → b.first ≤ page → page < end_of b → ⊥
+BlocksFree bs first end = (b : Block) → IsOneBlock bs b → (page : ℕ) → first ≤ page → page < end → b.first ≤ page → page < end_of b → ⊥
 
 apart_free : (first end : ℕ) (bs : List Block) → first < end → BlocksFree bs first end → Apart first end bs
 apart_free first end [] some free = tt
@@ -57,7 +59,7 @@ meets_parts first end b e =
     (ltb-true b.first end h.0, ltb-true first (end_of b) h.1)
 
 -- a block that meets a range has a page of it
-meets_free : (first end : ℕ) (bs : List Block) (b : Block) → first < end → BlocksFree bs first end → IsBlockOf bs b → meets first end b ≡ false
+meets_free : (first end : ℕ) (bs : List Block) (b : Block) → first < end → BlocksFree bs first end → IsOneBlock bs b → meets first end b ≡ false
 meets_free first end bs b some free m = false_from_ne_true (meets first end b) (λ e.
     let h = meets_parts first end b e in let low = h.0 in let high = h.1 in
     free b m (max first b.first) (omega arith) (omega arith) (omega arith) (omega (arith, pow_pos b.log2)))
@@ -69,7 +71,7 @@ find_none first end (b ∷ bs) some free =
     rw no (find_none first end bs some (λ c m. free c (inr m)))
 
 -- a later block begins at the end of an earlier one or behind it
-later_first : (n : ℕ) (bs : List Block) (b : Block) → InOrder n bs → IsBlockOf bs b → n ≤ b.first
+later_first : (n : ℕ) (bs : List Block) (b : Block) → InOrder n bs → IsOneBlock bs b → n ≤ b.first
 later_first n [] b order m = absurd m
 later_first n (c ∷ bs) b order m = elim m [
   | inl e ↦ subst (λ (d : Block). n ≤ d.first) e order.0
@@ -77,7 +79,7 @@ later_first n (c ∷ bs) b order m = elim m [
 ]
 
 -- the block that has the lowest mapped page is the first that meets the range
-find_first : (first end page n : ℕ) (bs : List Block) (b : Block) → first ≤ page → page < end → BlocksFree bs first page → InOrder n bs → IsBlockOf bs b →
+find_first : (first end page n : ℕ) (bs : List Block) (b : Block) → first ≤ page → page < end → BlocksFree bs first page → InOrder n bs → IsOneBlock bs b →
     b.first ≤ page → page < end_of b → find (meets first end) bs ≡ Some b
 find_first first end page n [] b from to free order m low high = absurd m
 find_first first end page n (c ∷ bs) b from to free order m low high = elim m [
@@ -93,7 +95,7 @@ find_first first end page n (c ∷ bs) b from to free order m low high = elim m 
 ]
 
 -- What the book of a view at rest says of a range.
-module _ (f : Layout) (good : IsLayout f) (v : View) (blocks : List Block) (rest : IsAtRest f v blocks) where
+module _ {f : Layout} (good : IsLayout f) {v : View} {blocks : List Block} (rest : IsAtRest f v blocks) where
   pub blocks_free : (first end : ℕ) → IsFree f v first end → BlocksFree blocks first end
   blocks_free first end free b m page from to low high =
       let x : (x : Piece) × IsOneOf (pieces_of f b) x × IsUnderPiece f x page = piece_over f good b page low high in
@@ -112,9 +114,9 @@ module _ (f : Layout) (good : IsLayout f) (v : View) (blocks : List Block) (rest
       let x : Piece = h.piece in
       let own : IsOwn f v x = owns x h.own in
       let i = in_blocks f blocks x (subst (λ (xs : List Piece). IsOneOf xs x) rest.pieces h.own) in
-      let m : IsBlockOf blocks x.block = block_at_index blocks x.block i.0.0 i.0.1 i.0.2 in
+      let m : IsOneBlock blocks x.block = block_at_index blocks x.block i.0.0 i.0.1 i.0.2 in
       let low = h.has_page.0 in let high = h.has_page.1 in
-      let ends = ends_in_block f good v x own in
+      let ends = ends_in_block good (own_piece own) in
       let free = blocks_free first page h.free in
       let from = h.from in let to = h.to in
       let order = in_order_from 0 blocks (λ k b less e. omega arith) lawful.in_order in

@@ -8,8 +8,9 @@ use Rattle.std.proofs.Math.Nat.{div-mul-le_self, div-eq_of_lt}
 use Rattle.std.proofs.Math.Pow.{pow_mono}
 use Rattle.pt_model.specs.declared.position.Position.{Position}
 use Rattle.pt_model.specs.Layout.{Layout, pages_of_entry}
-use Rattle.pt_model.specs.Tables.{IsPosition, add_position, child_at, is_same, is_spine, position_over}
-use Rattle.pt_model.proofs.Positions.{is_same_self, is_same_true, length_add_new, member_new, same_position}
+use Rattle.pt_model.specs.Tables.{IsPosition, child_at, position_over}
+use Rattle.pt_model.proofs.Positions.{same_position, among_some, among_here}
+use Rattle.pt_model.proofs.Quotients.{entry_is_table, multiple_under, whole}
 use Rattle.pt_format.specs.Laws.{IsLayout}
 use Rattle.pt_view.specs.declared.view.View.{View}
 use Rattle.pt_view.specs.declared.view.Node.{Node}
@@ -17,17 +18,19 @@ use Rattle.pt_view.specs.declared.holder.Seen.{Seen}
 use Rattle.pt_view.specs.declared.holder.Seen.TheVariants.{Empty, Leaf, Entered}
 use Rattle.pt_view.specs.declared.holder.Won.{Won}
 use Rattle.pt_view.specs.declared.holder.Won.TheVariants.{Yes, Met}
-use Rattle.pt_model.specs.Sets.{AddsPositions, IsAmong, SamePositions, one_if}
+use Rattle.pt_model.specs.Sets.{AddsPositions, IsAmong, SamePositions}
 use Rattle.pt_view.specs.Lists.{SameFrames}
 use Rattle.pt_view.specs.Views.{SameBook, SameHistory, SameRange}
-use Rattle.pt_view.specs.Calls.{IsEntryAt, IsInstalled, IsPlaced, IsUnplaced, MayInstall, MeetsOwn, MeetsEntry, Prepares, Went, is_under, lowest, pieces_at, with_table}
-use Rattle.pt_walk.specs.Walks.{AddsAbsences, IsInSpan, entry_number}
-use Rattle.pt_walk.proofs.Loads.{Load, adds_absences_on, found_owned, loaded, same_range_on}
-use Rattle.pt_walk.proofs.OverPage.{child_is, counted, entry_meets, number_within}
-use Rattle.pt_walk.proofs.Quotients.{entry_is_table, multiple_under, quotient_cut, whole}
+use Rattle.pt_view.specs.Calls.{IsEntryAt, IsInstalled, IsPlaced, IsUnplaced, MayInstall, MeetsEntry, Prepares, Went, is_under, lowest, pieces_at, with_table}
+use Rattle.pt_view.specs.Loads.{AddsAbsences, IsInSpan}
+use Rattle.pt_view.specs.Pieces.{entry_number}
+use Rattle.pt_view.proofs.Stays.{range_on}
+use Rattle.pt_view.proofs.Loads.{IsLoad, absences_here, absences_on, load_leaf, load_none, load_table, table_path}
+use Rattle.pt_view.proofs.Entries.{child_is, entry_meets, number_within}
+use Rattle.pt_view.proofs.Pieces.{counted}
+use Rattle.pt_walk.proofs.Cuts.{quotient_cut}
 use Rattle.pt_map.specs.Filled.{HasRoom, IsDeeper, MayGoInto, Spends, next_table}
-use Rattle.pt_map.proofs.Among.{member_among}
-use Rattle.pt_map.proofs.Spent.{among_some, spends_none, spends_one, without}
+use Rattle.pt_map.proofs.Spent.{spends_none, spends_one, without}
 
 -- a page aligned down to the pages of an entry
 pub down_is : (page k base : ℕ) → page < 2 ^ 52 → base % 2 ^ min k 63 ≡ 0 → base ≤ page → page < base + 2 ^ min k 63 → base ≡ page / 2 ^ k * 2 ^ k
@@ -42,33 +45,7 @@ down_is page k base few aligned low high =
           e ∙ ap (λ y. y * 2 ^ min k 63) zero ∙ (let z : 0 * 2 ^ min k 63 ≡ 0 * 2 ^ k = omega arith in z) ∙ ap (λ y. y * 2 ^ k) (sym zero)
     ]
 
--- what stands beside one position in a list
-pub among_one : (p q : Position) → IsAmong (q ∷ []) p → p ≡ q
-among_one p q h = is_same_true p q (true_bit (is_same p q) (omega arith))
-  where
-    true_bit : (b : Bool) → 0 < one_if b → b ≡ true
-    true_bit true h = refl
-    true_bit false h = absurd (omega arith)
-
-pub one_among : (p : Position) → IsAmong (p ∷ []) p
-one_among p = let one : one_if (is_same p p) ≡ 1 = ap one_if (is_same_self p p refl) in omega arith
-
--- a step that shows no position to be absent
-pub keeps_absences : (v w : View) → w.absent ≡ v.absent → AddsAbsences v w
-keeps_absences v w e = ([], e ∙ sym (append-nil v.absent))
-
--- a list with a table that was linked
-
-has_with : (levels : ℕ) (tables : List Position) (q : Position) → IsAmong (with_table levels tables q) q ⊎ IsTrue (is_spine levels q)
-has_with levels tables q = elim (cases_Bool (is_spine levels q)) [
-  | inl spine ↦ inr spine
-  | inr off ↦ inl (rw off (member_among (add_position tables q) q (member_new tables q)))
-]
-
-with_new : (levels : ℕ) (tables : List Position) (q : Position) → (¬ IsAmong tables q) → is_spine levels q ≡ false → length (with_table levels tables q) ≡ length tables + 1
-with_new levels tables q fresh off = rw off (length_add_new tables q (λ m. fresh (member_among tables q m)))
-
-module _ (f : Layout) (good : IsLayout f) (tells : Type 0) (v : View) (page level : ℕ) (may : MayGoInto f v page level) where
+module _ {f : Layout} (good : IsLayout f) {v : View} {page level : ℕ} (may : MayGoInto f v page level) where
   abbrev place : Position
   place = position_over f page level
 
@@ -94,35 +71,36 @@ module _ (f : Layout) (good : IsLayout f) (tells : Type 0) (v : View) (page leve
   next_child : child_at f place number ≡ next_table f page level
   next_child = child_is f page level may.high
 
-  at_entry : (w : View) → w.path ≡ v.path → IsEntryAt f w place number
-  at_entry w e = subst (λ (path : List Node). IsEntryAt f (record w { path = path }) place number) (sym e)
-      (record { node = record { frame = may.over.0; position = place }; is_lowest = may.over.1; at = refl; within = number_within f page level })
+  entry_on : (w : View) → w.path ≡ v.path → IsEntryAt f w place number
+  entry_on w e = record {
+    node = record { frame = may.over.frame; position = place };
+    is_lowest = ap lowest e ∙ may.over.is;
+    at = refl;
+    within = number_within f page level;
+  }
 
   span_on : (w : View) → SameRange v w → IsInSpan w page
   span_on w r = let a = may.in_span.0 in let b = may.in_span.1 in let e = r.first in let k = r.count in (omega arith, omega arith)
 
-  pub may_enter : (n : ℕ) → n ≡ number → MeetsEntry f v n
-  may_enter n e = subst (MeetsEntry f v) (sym e) (record { position = place; entry = at_entry v refl; meets = entry_meets f page level v may.in_span })
-
   -- the first frame is prepared for it, and then linked there
-  module _ (w : View) (base : ℕ) (is : base ≡ page / pages_of_entry f level * pages_of_entry f level) (placed : IsPlaced tells v (record { level = level - 1; base = base }) w) where
+  module _ {tells : Type 0} {w : View} (base : ℕ) (is : base ≡ page / pages_of_entry f level * pages_of_entry f level) (placed : IsPlaced tells v (record { level = level - 1; base = base }) w) where
     pub may_install : (n : ℕ) → n ≡ number → MayInstall f w n
     may_install n e = subst (MayInstall f w) (sym e) (record {
       position = place;
-      entry = at_entry w placed.path;
-      meets = entry_meets f page level w (span_on w placed.range);
+      entry = entry_on w placed.path;
+      meets = entry_meets f w page level (span_on w placed.range);
       high = may.high;
       frame = placed.purse.0;
       prepared = placed.purse.2 ∙ ap (λ (p : Position). Some (record { frame = placed.purse.0; position = p; bridge = None })) (next_is base is ∙ sym next_child);
       no_piece = ap (pieces_at f place number) placed.book.pieces ∙ may.no_piece;
     })
 
-    module _ (n : ℕ) (e : n ≡ number) (won : Won) (u : View) (installed' : IsInstalled f tells n w won u) where
+    module _ {n : ℕ} (e : n ≡ number) {won : Won} {u : View} (installed' : IsInstalled f tells n w won u) where
       installed : IsInstalled f tells number w won u
       installed = subst (λ (k : ℕ). IsInstalled f tells k w won u) e installed'
 
       here : IsEntryAt f w place number
-      here = at_entry w placed.path
+      here = entry_on w placed.path
 
       known : AddsPositions v.known u.known (λ p. p ≡ next_table f page level)
       known = λ p.
@@ -134,36 +112,13 @@ module _ (f : Layout) (good : IsLayout f) (tells : Type 0) (v : View) (page leve
       next_known : IsAmong u.known (next_table f page level)
       next_known = (known (next_table f page level)).1 (inl refl)
 
-      -- the book has its table now, unless it is of the spine
-      pub tables_linked : u.tables ≡ with_table v.levels v.tables (next_table f page level)
-      tables_linked = installed.tables place here ∙ (λ i. with_table (placed.range.levels i) (placed.book.tables i) (next_child i))
-
-      pub owned_linked : IsAmong u.tables (next_table f page level) ⊎ IsTrue (is_spine v.levels (next_table f page level))
-      owned_linked = elim (has_with v.levels v.tables (next_table f page level)) [
-        | inl there ↦ inl (subst (λ (ps : List Position). IsAmong ps (next_table f page level)) (sym tables_linked) there)
-        | inr spine ↦ inr spine
-      ]
-
-      -- where the table is new to the book, it has one table more
-      pub tables_more : (¬ IsAmong v.tables (next_table f page level)) → is_spine v.levels (next_table f page level) ≡ false → length u.tables ≡ length v.tables + 1
-      tables_more fresh off = ap (λ (ps : List Position). length ps) tables_linked ∙ with_new v.levels v.tables (next_table f page level) fresh off
-
-      -- a lone holder meets no other table there
-      pub meets_none : (alone : Type 0) → alone → (alone → MeetsOwn f n w won) → won ≡ Met → (¬ IsAmong v.tables (next_table f page level)) → is_spine v.levels (next_table f page level) ≡ false → ⊥
-      meets_none alone a met is fresh off =
-          let m : MeetsOwn f number w Met = subst (λ (k : ℕ). MeetsOwn f k w Met) e (subst (MeetsOwn f n w) is (met a)) in
-          elim (m place here) [
-            | inl there ↦ fresh (subst (IsAmong v.tables) next_child (subst (λ (ps : List Position). IsAmong ps (child_at f place number)) placed.book.tables there))
-            | inr spine ↦ false≢true (sym off ∙ subst (λ (q : Position). is_spine v.levels q ≡ true) next_child (subst (λ (l : ℕ). is_spine l (child_at f place number) ≡ true) placed.range.levels spine))
-          ]
-
       -- linked or not, with the prepared frame left aside
       deeper_but : (z : View) → SameRange u z → SameBook u z → z.path ≡ u.path → z.prepared ≡ None → z.end ≡ u.end → SameFrames u.busy z.busy → SamePositions u.known z.known →
           (tells → SameHistory u z) → IsDeeper f tells v z page level
       deeper_but z r b path none end busy k told =
           let p = installed.path place here in
           record {
-            range = same_range_on v u z (same_range_on v w u placed.range installed.range) r;
+            range = range_on (range_on placed.range installed.range) r;
             pieces = b.pieces ∙ installed.pieces ∙ placed.book.pieces;
             top = b.top ∙ installed.top ∙ placed.book.top;
             prepared = none ∙ sym may.none;
@@ -179,7 +134,7 @@ module _ (f : Layout) (good : IsLayout f) (tells : Type 0) (v : View) (page leve
               (told t).taken ∙ (installed.told t).taken ∙ (placed.told t).taken,
               (told t).stores ∙ (installed.told t).stores ∙ (placed.told t).stores,
             );
-            absent = λ t. keeps_absences v z ((told t).absent ∙ (installed.told t).absent ∙ (placed.told t).absent);
+            absent = λ t. absences_here ((told t).absent ∙ (installed.told t).absent ∙ (placed.told t).absent);
           }
 
       prepares : (s : Won) → won ≡ s → Prepares s w u
@@ -196,11 +151,8 @@ module _ (f : Layout) (good : IsLayout f) (tells : Type 0) (v : View) (page leve
             (placed.purse.1 ∙ ap (λ (xs : List ℕ). placed.purse.0 ∷ xs) (sym installed.purse.purse)) lacks next_known,
       )
 
-      pub links_won : length u.purse + 1 ≡ length v.purse
-      links_won = let a = ap length placed.purse.1 in let b = ap length installed.purse.purse in omega arith
-
       -- another table was linked there before, and the frame is put back
-      module _ (met : won ≡ Met) (z : View) (unplaced : IsUnplaced tells u z) where
+      module _ (met : won ≡ Met) {z : View} (unplaced : IsUnplaced tells u z) where
         pub deeper_met : IsDeeper f tells v z page level
         deeper_met = deeper_but z unplaced.range unplaced.book unplaced.path unplaced.none unplaced.end unplaced.busy unplaced.known unplaced.told
 
@@ -216,10 +168,9 @@ module _ (f : Layout) (good : IsLayout f) (tells : Type 0) (v : View) (page leve
         )
 
   -- a load of the entry
-  module _ (alone : Type 0) (n : ℕ) (e : n ≡ number) (seen : Seen) (w : View) (went : Went f tells alone n v seen w) where
-    load : (s : Seen) → seen ≡ s → Load f tells v place number w s
-    load s is = subst (Load f tells v place number w) is (loaded f tells alone v place number seen w
-        ((subst (λ (k : ℕ). Went f tells alone k v seen w) e went).looked place (at_entry v refl)))
+  module _ {tells alone : Type 0} {n : ℕ} (e : n ≡ number) {seen : Seen} {w : View} (went : Went f tells alone n v seen w) where
+    load : IsLoad f tells alone v page level seen w
+    load = record { over = may.over; inside = may.in_span; number = n; is = e; went = went }
 
     -- the child lies under its entry
     child_under : is_under f place number (child_at f place number) ≡ true
@@ -237,63 +188,47 @@ module _ (f : Layout) (good : IsLayout f) (tells : Type 0) (v : View) (page leve
       below = may.below;
       a_page = may.a_page;
       in_span = span_on w went.range;
-      over = (may.over.0, ap lowest (load Empty is).0 ∙ may.over.1);
+      over = record { frame = may.over.frame; is = ap lowest (load_none load is).path ∙ may.over.is };
       no_piece = ap (pieces_at f place number) went.book.pieces ∙ may.no_piece;
       none = went.prepared ∙ may.none;
     }
 
     -- no position is known under an empty entry, so the next table is a lacking one
     pub next_lacks : seen ≡ Empty → (lacking : List Position) → HasRoom v (next_table f page level ∷ []) lacking → IsAmong lacking (next_table f page level)
-    next_lacks is lacking room = elim (room.each (next_table f page level) (one_among (next_table f page level))) [
+    next_lacks is lacking room = elim (room.each (next_table f page level) (among_here (next_table f page level) [])) [
       | inr lacks ↦ lacks
       | inl known ↦ absurd (
-          let vacant = (load Empty is).2 in
+          let vacant = (load_none load is).vacant in
           let child : Position = child_at f place number in
           false≢true (sym (vacant.none_known child (subst (IsAmong v.known) (sym next_child) known)) ∙ child_under))
     ]
 
-    -- nor is one of the book's tables
-    pub next_fresh : seen ≡ Empty → ¬ IsAmong w.tables (next_table f page level)
-    next_fresh is = λ there.
-        let vacant = (load Empty is).2 in
-        let child : Position = child_at f place number in
-        let before : IsAmong v.tables (next_table f page level) = subst (λ (ps : List Position). IsAmong ps (next_table f page level)) went.book.tables there in
-        false≢true (sym (vacant.no_table child (subst (IsAmong v.tables) (sym next_child) before)) ∙ child_under)
-
-    pub owned_entered : seen ≡ Entered → alone → IsAmong w.tables (next_table f page level) ⊎ IsTrue (is_spine v.levels (next_table f page level))
-    owned_entered is a =
-        let o = found_owned f tells alone v place number seen w ((subst (λ (k : ℕ). Went f tells alone k v seen w) e went).looked place (at_entry v refl)) is a in
-        subst (λ (q : Position). IsAmong w.tables q ⊎ IsTrue (is_spine v.levels q)) next_child (elim o [
-          | inl there ↦ inl (subst (λ (ps : List Position). IsAmong ps (child_at f place number)) (sym went.book.tables) there)
-          | inr spine ↦ inr spine
-        ])
-
     pub purse_some : seen ≡ Empty → (lacking : List Position) → HasRoom v (next_table f page level ∷ []) lacking → 0 < length w.purse
     purse_some is lacking room =
-        let some = among_some lacking (next_table f page level) (next_lacks is lacking room) in
+        let some = among_some (next_table f page level) lacking (next_lacks is lacking room) in
         let frames = room.frames in let same = ap length went.purse.purse in omega arith
 
     pub deeper_linked : seen ≡ Empty → (u : View) → IsDeeper f tells w u page level → IsDeeper f tells v u page level
     deeper_linked is u d =
-        let l = load Empty is in
+        let l = load_none load is in
         record {
-          range = same_range_on v w u went.range d.range;
+          range = range_on went.range d.range;
           pieces = d.pieces ∙ went.book.pieces;
           top = d.top ∙ went.book.top;
           prepared = d.prepared ∙ went.prepared;
           end = d.end ∙ went.purse.end;
-          path = (d.path.0, d.path.1 ∙ ap (λ (xs : List Node). xs ++ record { frame = d.path.0; position = next_table f page level } ∷ []) l.0);
+          path = (d.path.0, d.path.1 ∙ ap (λ (xs : List Node). xs ++ record { frame = d.path.0; position = next_table f page level } ∷ []) l.path);
           tables = elim d.tables [
             | inl same ↦ inl (same ∙ went.book.tables)
             | inr more ↦ inr (more ∙ (λ i. with_table (went.range.levels i) (went.book.tables i) (next_table f page level)))
           ];
           busy = λ x. ((λ h. (went.busy x).0 ((d.busy x).0 h)), (λ h. (d.busy x).1 ((went.busy x).1 h)));
           known = λ p. (
-            (λ h. elim ((d.known p).0 h) [ inl same ↦ inl same | inr old ↦ inr ((l.1 p).0 old) ]),
-            (λ h. elim h [ inl same ↦ (d.known p).1 (inl same) | inr old ↦ (d.known p).1 (inr ((l.1 p).1 old)) ]),
+            (λ h. elim ((d.known p).0 h) [ inl same ↦ inl same | inr old ↦ inr ((l.known p).0 old) ]),
+            (λ h. elim h [ inl same ↦ (d.known p).1 (inl same) | inr old ↦ (d.known p).1 (inr ((l.known p).1 old)) ]),
           );
-          told = λ t. ((d.told t).0 ∙ (l.3 t).0, (d.told t).1 ∙ (l.3 t).1);
-          absent = λ t. adds_absences_on v w u (l.3 t).2 (d.absent t);
+          told = λ t. ((d.told t).0 ∙ (l.told t).taken, (d.told t).1 ∙ (l.told t).stores);
+          absent = λ t. absences_on (l.told t).absent (d.absent t);
         }
 
     pub spends_linked : seen ≡ Empty → (u : View) → ((lacking : List Position) → IsAmong lacking (next_table f page level) → (still : List Position) × Spends w u lacking still) →
@@ -305,27 +240,27 @@ module _ (f : Layout) (good : IsLayout f) (tells : Type 0) (v : View) (page leve
     -- the entry has no word of a block
     pub no_leaf : (word : ℕ) → seen ≡ Leaf word → ⊥
     no_leaf word is =
-        let l = (load (Leaf word) is).3 in
-        let some = counted f place number v.pieces l.0 l.1 l.2 in let none = may.no_piece in omega arith
+        let l = load_leaf load is in
+        let some = counted f place number v.pieces l.piece l.member l.here in let none = may.no_piece in omega arith
 
     pub entered : ((word : ℕ) × (seen ≡ Leaf word)) ⊎ (seen ≡ Entered) → seen ≡ Entered
     entered h = elim h [ inl leaf ↦ absurd (no_leaf leaf.0 leaf.1) | inr is ↦ is ]
 
     pub deeper_entered : seen ≡ Entered → IsDeeper f tells v w page level
     deeper_entered is =
-        let l = load Entered is in
+        let l = load_table load is in
         record {
           range = went.range;
           pieces = went.book.pieces;
           top = went.book.top;
           prepared = went.prepared;
           end = went.purse.end;
-          path = (l.0.0, l.0.1 ∙ ap (λ (p : Position). v.path ++ record { frame = l.0.0; position = p } ∷ []) next_child);
+          path = table_path load is;
           tables = inl went.book.tables;
           busy = went.busy;
-          known = subst (λ (c : Position). AddsPositions v.known w.known (λ q. q ≡ c)) next_child l.1;
-          told = λ t. ((l.2 t).0, (l.2 t).1);
-          absent = λ t. (l.2 t).2;
+          known = subst (λ (c : Position). AddsPositions v.known w.known (λ q. q ≡ c)) next_child l.known;
+          told = λ t. ((l.told t).taken, (l.told t).stores);
+          absent = λ t. (l.told t).absent;
         }
 
     pub spends_entered : seen ≡ Entered → (lacking : List Position) → HasRoom v (next_table f page level ∷ []) lacking → (still : List Position) × Spends v w lacking still

@@ -11,9 +11,8 @@ use Rattle.pt_model.specs.Book.{Book, Occupied, OutsideLease, OutputRange, is_in
 use Rattle.pt_format.specs.Laws.{IsLayout}
 use Rattle.pt_format.specs.Ranges.{span_of}
 use Rattle.pt_format.proofs.PageFacts.{count_small, under_small}
-use Rattle.pt_map.specs.declared.refused.MapRefused.TheVariants as refused
-use Rattle.pt_map.specs.Answers.{request_of}
 use Rattle.pt_map.specs.Requests.{IsRefusedByNumbers, IsRequested}
+use Rattle.pt_map.specs.declared.refused.MapRefused.TheVariants as refused
 
 -- the range that the bytes of a request are, where they are one
 pub found_range : (f : Layout) (va len : ℕ) (range : Span) → Some range ≡ option_map span_of (range_at f va len) →
@@ -37,8 +36,7 @@ found_range f va len range e = by_test _ refl
 pub whole_times : (f : Layout) (bytes : ℕ) → is_whole f bytes ≡ true → bytes ≡ bytes / 2 ^ f.granule * 2 ^ f.granule
 whole_times f bytes e = let z : bytes % 2 ^ f.granule ≡ 0 = eqb-true (bytes % 2 ^ f.granule) 0 e in let s = shr_split bytes f.granule in omega arith
 
-module _ (f : Layout) (good : IsLayout f) (va pa len : ℕ) (whole_va : is_whole f va ≡ true) (whole_pa : is_whole f pa ≡ true) (whole_len : is_whole f len ≡ true) (some : 0 < len)
-    (range : Span) (found : Some range ≡ option_map span_of (range_at f va len)) where
+module _ {f : Layout} (good : IsLayout f) (va pa len : ℕ) (whole_va : is_whole f va ≡ true) (whole_pa : is_whole f pa ≡ true) (whole_len : is_whole f len ≡ true) (some : 0 < len) (range : Span) (found : Some range ≡ option_map span_of (range_at f va len)) where
   -- what is left to test of a request of whole pages
   left_to_test : (book : Book) → map_refusal f book va pa len
       ≡ (if not (is_inside book range.first (range.first + range.count)) then Some OutsideLease else (
@@ -97,25 +95,22 @@ module _ (f : Layout) (good : IsLayout f) (va pa len : ℕ) (whole_va : is_whole
         ]
 
     pub requested : (prot : Prot) (out : ℕ) → out ≡ pa / 2 ^ f.granule → IsTrue (f.states prot) → first + count ≤ input_pages f → pa + len ≤ 2 ^ f.output →
-        IsRequested f first count va pa len (request_of f va pa len prot) (record { first = range.first; end = range.first + range.count; out = out; prot = prot })
+        IsRequested f first count va pa len prot (record { first = range.first; end = range.first + range.count; out = out; prot = prot })
     requested prot out is stated in_space within =
         let r = found_range f va len range found in
         let b = whole_times f len whole_len in
         let long : range.count ≡ len / 2 ^ f.granule = r.1 in
-        let same : range.first + range.count - range.first ≡ len / 2 ^ f.granule = omega arith in
         let pages = pages_within within in
         let any : 0 < range.count = elim (cases_lt 0 range.count) [ inl more ↦ more | inr none ↦ absurd (let z : len / 2 ^ f.granule ≡ 0 = omega arith in let y : len / 2 ^ f.granule * 2 ^ f.granule ≡ 0 = ap (λ n. n * 2 ^ f.granule) z ∙ omega arith in omega arith) ] in
         record {
-          part = record { some = omega arith; in_input = omega arith; in_output = omega arith; stated = stated };
-          from = from;
-          to = to;
-          request = λ i. record { first = r.0 i; count = same i; out = is i; prot = prot };
+          inside = record {
+            extent = record { some = omega arith; in_input = omega arith; in_output = omega arith; stated = stated };
+            from = from;
+            to = to;
+          };
+          is = λ i. record { first = r.0 i; end = r.0 i + long i; out = is i; prot = prot };
           refusal = λ book spans.
               let yes = inside book spans in
               let under : nat_lt (2 ^ f.output) (pa + len) ≡ false = le-ltb (2 ^ f.output) (pa + len) within in
               left_to_test book ∙ rw (yes, under) refl;
         }
-
--- the first byte past the outputs, as the code makes it
-pub power_fits : (f : Layout) → IsLayout f → (bits : ℕ) → bits ≡ f.output → 1 * 2 ^ bits % 2 ^ 128 ≡ 2 ^ f.output
-power_fits f good bits e = one_shl bits 128 (omega (arith, good.output_high)) ∙ ap (λ k. 2 ^ k) e

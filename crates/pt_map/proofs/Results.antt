@@ -8,7 +8,7 @@ use Rattle.pt_model.specs.Layout.{Layout}
 use Rattle.pt_model.specs.Book.{IsLawful, MapRefusal, Occupied, lowest_mapped}
 use Rattle.pt_model.specs.Pages.{byte_at}
 use Rattle.pt_model.specs.Sets.{IsSorted, IsAmong, places}
-use Rattle.pt_model.specs.Tables.{end_of_table, is_spine, least_top, position_over, starting_top}
+use Rattle.pt_model.specs.Tables.{end_of_table, is_spine, least_top, position_over, starting_top, levels_between}
 use Rattle.pt_format.specs.Laws.{IsLayout}
 use Rattle.pt_view.specs.declared.view.View.{View}
 use Rattle.pt_view.specs.declared.view.Absence.{Absence}
@@ -17,23 +17,26 @@ use Rattle.pt_view.specs.declared.view.Change.TheVariants.{Written}
 use Rattle.pt_view.specs.declared.view.Piece.{Piece}
 use Rattle.pt_view.specs.Lists.{IsIn}
 use Rattle.pt_view.specs.Pieces.{IsOneOf, add_pieces, all_pieces}
-use Rattle.pt_view.specs.Views.{IsAtRest, SameBook, SameRange, book_of}
-use Rattle.pt_walk.specs.Walks.{AddsAbsences, IsFree, OwnsAll, OwnsOver, Walked}
-use Rattle.pt_walk.proofs.Loads.{adds_absences_on, same_book_on, same_range_on}
+use Rattle.pt_view.specs.Views.{IsAtRest, SameBook, SameRange, book_of, Aside, linked_count}
+use Rattle.pt_walk.specs.Walks.{IsFree, OwnsAll, OwnsOver}
+use Rattle.pt_view.specs.Loads.{AddsAbsences, ByLoads}
+use Rattle.pt_view.proofs.Stays.{book_on, range_on}
+use Rattle.pt_view.proofs.Loads.{absences_on}
 use Rattle.pt_walk.proofs.Ranges.{free_on, lowest_on}
-use Rattle.pt_map.specs.declared.part.Part.{Part}
+use Rattle.pt_tile.specs.declared.extent.Extent.{Extent}
 use Rattle.pt_map.specs.declared.refused.MapRefused.{MapRefused}
-use Rattle.pt_map.specs.declared.refused.MapRefused.TheVariants as refused
 use Rattle.pt_map.specs.Absent.{Counted, IsMissing, is_shown}
-use Rattle.pt_map.specs.Answers.{AddsToHistory, FindsAbsent, FindsEach, HasNoEmptyTable, IsMapped, IsRefused, IsShortOf, IsWanting, KeepsPurse, WantsFrames, book_after, lacking, refusal_of, request_for, unknown}
-use Rattle.pt_map.specs.Parts.{IsPart, needs, needs_below, tiles}
-use Rattle.pt_map.specs.Requests.{IsRefusedBelow, LacksFrames, MappedBelow}
-use Rattle.pt_map.proofs.Belows.{shown_later}
+use Rattle.pt_map.specs.Answers.{AddsToHistory, FindsAbsent, FindsEach, HasNoEmptyTable, IsMapped, IsRefused, IsShortOf, IsWanting, KeepsPurse, WantsFrames, book_with, lacking, refusal_of, unknown, LinksAll}
+use Rattle.pt_map.specs.Requests.{LacksFrames, MappedBelow, HasCause, RefusedBelow, occupied}
+use Rattle.pt_map.proofs.Gone.{shown_right}
 use Rattle.pt_map.proofs.Blocks.{Apart, adds_pieces, in_order_from}
 use Rattle.pt_map.proofs.FirstMapped.{first_mapped, free_apart, none_mapped}
 use Rattle.pt_map.proofs.Lacking.{absent_all, absent_few, absent_most, absent_shown, tables_more}
-use Rattle.pt_map.proofs.Needs.{top_is}
-use Rattle.pt_map.proofs.TablesAfter.{full_after, part_tiling, tables_after}
+use Rattle.pt_map.proofs.TablesAfter.{full_after, tables_after}
+use Rattle.pt_tile.specs.Extents.{IsExtent, from, tables_below, tables_of, tiles}
+use Rattle.pt_map.specs.Stands.{IsOwnTable}
+use Rattle.pt_tile.proofs.FirstSizes.{extent_tiling}
+use Rattle.pt_map.specs.declared.refused.MapRefused.TheVariants as refused
 
 -- the view with its path left
 abbrev pub rested : View → View
@@ -46,19 +49,20 @@ book_rested : (v w : View) → SameBook v w → SameBook v (rested w)
 book_rested v w b = record { pieces = b.pieces; tables = b.tables; top = b.top }
 
 -- View v is at rest, d is that at the table over all of the part, of this level.
-pub record Standing (f : Layout) (tells : Type 0) (v d : View) (blocks : List Block) (x : Part) (level : ℕ) : Type 0 where
+pub record Standing (f : Layout) (tells : Type 0) (v d : View) (blocks : List Block) (x : Extent) (level : ℕ) : Type 0 where
   pub rest : IsAtRest f v blocks
   pub lawful : IsLawful f v.levels (book_of v blocks)
   pub owns : OwnsAll f v
   pub sorted : IsSorted v.tables
   pub full : HasNoEmptyTable f v
-  pub part : IsPart f x
-  pub starts : v.levels ≡ f.levels
-  pub high : starting_top v.levels ≤ v.top
+  pub extent : IsExtent f x
+  pub start : f.start ≤ v.levels
+  pub few : v.levels ≤ f.levels
+  pub top : least_top f v.levels x.end ≤ v.top
   pub below : level < f.levels
-  pub walked : Walked tells v d
+  pub walked : ByLoads tells v d
 
-module _ (f : Layout) (good : IsLayout f) (tells : Type 0) (v d : View) (blocks : List Block) (x : Part) (level : ℕ) (stand : Standing f tells v d blocks x level) where
+module _ {f : Layout} (good : IsLayout f) {tells : Type 0} {v d : View} {blocks : List Block} {x : Extent} {level : ℕ} (stand : Standing f tells v d blocks x level) where
   frames_same : d.frames ≡ v.frames
   frames_same = stand.walked.range.frames
 
@@ -66,61 +70,63 @@ module _ (f : Layout) (good : IsLayout f) (tells : Type 0) (v d : View) (blocks 
   purse_same = stand.walked.purse.purse
 
   free_here : IsFree f d x.first x.end → IsFree f v x.first x.end
-  free_here free = free_on f v d x.first x.end stand.walked.book free
+  free_here free = free_on f x.first x.end stand.walked.book free
 
-  missing_here : (p : Position) → IsMissing f d (needs_below f f.levels x level) p → IsMissing f v (needs_below f f.levels x level) p
+  missing_here : (p : Position) → IsMissing d (tables_below f x level) p → IsMissing v (tables_below f x level) p
   missing_here p m = record {
     is_needed = m.is_needed;
+    off_spine = subst (λ (l : ℕ). is_spine l p ≡ false) stand.walked.range.levels m.off_spine;
     no_table = λ h. m.no_table (subst (λ (ps : List Position). IsAmong ps p) (sym stand.walked.book.tables) h);
     unknown = λ h. m.unknown (stand.walked.known p h);
   }
 
+  own_here : (p : Position) → IsOwnTable d p → IsOwnTable v p
+  own_here p (inl there) = inl (subst (λ (ps : List Position). IsAmong ps p) stand.walked.book.tables there)
+  own_here p (inr spine) = inr (subst (λ (l : ℕ). IsTrue (is_spine l p)) stand.walked.range.levels spine)
+
   none_there : IsFree f d x.first x.end → lowest_mapped (book_of v blocks) x.first x.end ≡ None
-  none_there free = none_mapped f good v blocks stand.rest x.first x.end stand.part.some (free_here free)
+  none_there free = none_mapped good stand.rest x.first x.end stand.extent.some (free_here free)
 
   -- over a lone holder the positions found absent are the lacking ones
   all_here : (alone : Type 0) → alone → x.end ≤ end_of_table f (position_over f x.first level) → OwnsOver f d x.first level f.levels → (absent : List Position) →
-      ((p : Position) → places p absent ≤ 1) → ((p : Position) → IsAmong absent p → IsMissing f d (needs_below f f.levels x level) p) →
-      ((p : Position) → IsAmong (needs_below f f.levels x level) p → IsAmong absent p ⊎ IsAmong d.tables p) → length absent ≡ length (lacking f v blocks (request_for x))
+      ((p : Position) → places p absent ≤ 1) → ((p : Position) → IsAmong absent p → IsMissing d (tables_below f x level) p) →
+      ((p : Position) → IsAmong (tables_below f x level) p → IsAmong absent p ⊎ IsOwnTable d p) → length absent ≡ length (lacking f v blocks x)
   all_here alone a under over absent once missing all =
-      absent_all f good v blocks x stand.part stand.starts stand.high level stand.below absent once (λ p h. missing_here p (missing p h)) under
-      (λ j from to. elim (over j from to) [
-        | inl there ↦ inl (subst (λ (ps : List Position). IsAmong ps (position_over f x.first j)) stand.walked.book.tables there)
-        | inr spine ↦ inr (subst (λ (l : ℕ). IsTrue (is_spine l (position_over f x.first j))) stand.walked.range.levels spine)
-      ])
-      (λ p h. elim (all p h) [ inl m ↦ inl m | inr t ↦ inr (subst (λ (ps : List Position). IsAmong ps p) stand.walked.book.tables t) ])
+      absent_all good v blocks stand.extent stand.start stand.few stand.top level stand.below absent once (λ p h. missing_here p (missing p h)) under
+      (λ j from to. own_here (position_over f x.first j) (over j from to))
+      (λ p h. elim (all p h) [ inl m ↦ inl m | inr own ↦ inr (own_here p own) ])
 
   -- so many of the positions that were found absent below the table are so from view v on
   found : (w : View) (absent : List Position) (count : ℕ) → count ≤ length absent → count ≤ v.frames + 1 → ((p : Position) → places p absent ≤ 1) →
-      ((p : Position) → IsAmong absent p → IsMissing f d (needs_below f f.levels x level) p) →
+      ((p : Position) → IsAmong absent p → IsMissing d (tables_below f x level) p) →
       (tells → (facts : List Absence) × (w.absent ≡ d.absent ++ facts) × ((p : Position) → IsAmong absent p → IsTrue (is_shown f facts p))) →
-      FindsAbsent f tells v (rested w) blocks (request_for x) count
+      FindsAbsent f tells v (rested w) blocks x count
   found w absent count most capped once missing told = record {
     capped = capped;
-    few = (let s = absent_few f good v blocks x stand.part stand.starts stand.high level stand.below absent once (λ p h. missing_here p (missing p h)) in omega arith);
+    few = (let s = absent_few good v blocks stand.extent stand.start stand.few stand.top level stand.below absent once (λ p h. missing_here p (missing p h)) in omega arith);
     shown = λ t.
         let first : AddsAbsences v d = stand.walked.absent t in
         let here = told t in
-        let facts : List Absence = first.0 ++ here.0 in
-        let s = absent_shown f good v blocks x stand.part stand.starts stand.high level stand.below absent once (λ p h. missing_here p (missing p h)) facts
-        (λ p h. shown_later f first.0 here.0 p (here.2 p h)) in
-        (facts, here.1 ∙ ap (λ (xs : List Absence). xs ++ here.0) first.1 ∙ append_assoc v.absent first.0 here.0, omega arith);
+        let facts : List Absence = first.facts ++ here.0 in
+        let s = absent_shown good v blocks stand.extent stand.start stand.few stand.top level stand.below absent once (λ p h. missing_here p (missing p h)) facts
+        (λ p h. shown_right f first.facts here.0 p (here.2 p h)) in
+        (facts, here.1 ∙ ap (λ (xs : List Absence). xs ++ here.0) first.are ∙ append_assoc v.absent first.facts here.0, omega arith);
   }
 
   -- what was met on the way down, and then below the table
   grew_on : (w : View) → tells → AddsAbsences d w → ((lost : List ℕ) × (w.taken ≡ d.taken ++ lost)) → AddsToHistory v (rested w)
   grew_on w t facts lost = (
-    (let a = adds_absences_on v d w (stand.walked.absent t) facts in (a.0, a.1)),
+    (let a = absences_on (stand.walked.absent t) facts in record { facts = a.facts; are = a.are }),
     lost.0,
     lost.1 ∙ ap (λ (xs : List ℕ). xs ++ lost.0) (stand.walked.taken t),
   )
 
   -- The part was mapped.
-  module _ (alone : Type 0) (w : View) (linked : ℕ) (m : MappedBelow f tells alone d w x level linked) where
+  module _ {alone : Type 0} {linked : ℕ} {w : View} (m : MappedBelow f tells alone linked d w x level) where
     pieces_after : w.pieces ≡ add_pieces f v.pieces (all_pieces f (tiles f x))
     pieces_after = m.pieces ∙ ap (λ (ps : List Piece). add_pieces f ps (all_pieces f (tiles f x))) stand.walked.book.pieces
 
-    tables_same : (p : Position) → IsAmong w.tables p ↔ (IsAmong v.tables p ⊎ (IsAmong (needs f f.levels x) p × (is_spine v.levels p ≡ false)))
+    tables_same : (p : Position) → IsAmong w.tables p ↔ (IsAmong v.tables p ⊎ (IsAmong (tables_of f x) p × (is_spine v.levels p ≡ false)))
     tables_same p = (
       λ h. elim ((m.tables p).0 h) [
         | inl old ↦ inl (subst (λ (ps : List Position). IsAmong ps p) stand.walked.book.tables old)
@@ -136,42 +142,41 @@ module _ (f : Layout) (good : IsLayout f) (tells : Type 0) (v d : View) (blocks 
     sorted_after = m.in_order (subst (λ (ps : List Position). IsSorted ps) (sym stand.walked.book.tables) stand.sorted)
 
     pub full_mapped : HasNoEmptyTable f w
-    full_mapped = full_after f good v x stand.part w stand.starts stand.full pieces_after (λ p. (tables_same p).0)
+    full_mapped = full_after good v stand.extent w stand.full pieces_after (λ p. (tables_same p).0)
 
-    pub accepts : (refusal : Option MapRefusal) → refusal ≡ option_map (λ page. Occupied (byte_at f page)) (lowest_mapped (book_of v blocks) x.first x.end) → refusal ≡ None
-    accepts refusal is = is ∙ ap (λ o. option_map (λ page. Occupied (byte_at f page)) o) (none_there m.free)
+    pub accepts : occupied f x (book_of v blocks) ≡ None
+    accepts = ap (λ o. option_map (λ page. Occupied (byte_at f page)) o) (none_there m.free)
 
-    few : length m.absent ≤ length (unknown f v blocks (request_for x))
-    few = absent_few f good v blocks x stand.part stand.starts stand.high level stand.below m.absent m.are_absent.once (λ p h. missing_here p (m.are_absent.missing p h))
+    few : length m.absent ≤ length (unknown f v blocks x)
+    few = absent_few good v blocks stand.extent stand.start stand.few stand.top level stand.below m.absent m.are_absent.once (λ p h. missing_here p (m.are_absent.missing p h))
 
-    top_stays : v.top ≡ (book_after f v blocks (request_for x)).top
+    top_stays : v.top ≡ (book_with f v blocks x).top
     top_stays =
-        let some = stand.part.some in let input = stand.part.in_input in
+        let some = stand.extent.some in let top = stand.top in
         let ends : x.first + (x.end - x.first) ≡ x.end = omega arith in
-        let least : least_top f v.levels (x.first + (x.end - x.first)) ≡ f.levels - 1 =
-        ap (λ (l : ℕ). least_top f l (x.first + (x.end - x.first))) stand.starts ∙ ap (least_top f f.levels) ends ∙ top_is f good x.end stand.part.in_input in
+        let least : least_top f v.levels (x.first + (x.end - x.first)) ≡ least_top f v.levels x.end = ap (least_top f v.levels) ends in
         omega arith
 
-    blocks_after : w.pieces ≡ all_pieces f (book_after f v blocks (request_for x)).blocks
+    blocks_after : w.pieces ≡ all_pieces f (book_with f v blocks x).blocks
     blocks_after =
-        let some = stand.part.some in
+        let some = stand.extent.some in
         let ends : x.end ≡ x.first + (x.end - x.first) = omega arith in
         let apart : Apart x.first (x.first + (x.end - x.first)) blocks =
-        subst (λ (n : ℕ). Apart x.first n blocks) ends (free_apart f good v blocks stand.rest x.first x.end stand.part.some (free_here m.free)) in
+        subst (λ (n : ℕ). Apart x.first n blocks) ends (free_apart good stand.rest x.first x.end stand.extent.some (free_here m.free)) in
         pieces_after ∙ ap (λ (ps : List Piece). add_pieces f ps (all_pieces f (tiles f x))) stand.rest.pieces
-        ∙ adds_pieces f good x.prot x.first x.out (x.end - x.first) (tiles f x) blocks (part_tiling f good v x stand.part)
+        ∙ adds_pieces good x.prot x.first x.out (x.end - x.first) (tiles f x) blocks (extent_tiling good stand.extent)
         (in_order_from 0 blocks (λ k b less e. omega arith) stand.lawful.in_order) apart
 
-    pub is_mapped : IsMapped f tells v (rested w) blocks (request_for x)
+    pub is_mapped : IsMapped f tells v (rested w) blocks x
     is_mapped = record {
-      range = range_rested v w (same_range_on v d w stand.walked.range m.range);
+      range = range_rested v w (range_on stand.walked.range m.range);
       rest = record {
         path = refl;
         prepared = m.prepared ∙ stand.walked.prepared ∙ stand.rest.prepared;
         end = m.end ∙ stand.walked.purse.end ∙ stand.rest.end;
         pieces = blocks_after;
       };
-      tables = tables_after f good v x stand.part blocks w.tables stand.starts stand.full (free_here m.free) stand.sorted sorted_after tables_same;
+      tables = tables_after good v stand.extent blocks w.tables stand.start stand.few stand.full (free_here m.free) stand.sorted sorted_after tables_same;
       top = m.top ∙ stand.walked.book.top ∙ top_stays;
       frames = record {
         absent = length m.absent;
@@ -184,71 +189,67 @@ module _ (f : Layout) (good : IsLayout f) (tells : Type 0) (v d : View) (blocks 
       };
       known = λ p h. m.known p (stand.walked.known p h);
       busy = λ frame h. m.busy frame ((stand.walked.busy frame).1 h);
-      grew = λ t. grew_on w t (let s = m.shown t in (s.0, s.1)) (m.taken t);
+      grew = λ t. grew_on w t (let s = m.shown t in record { facts = s.0; are = s.1 }) (m.taken t);
       stores = λ t. m.stores t ∙ ap (λ (xs : List Change). xs ++ map Written (all_pieces f (tiles f x))) (stand.walked.stores t);
     }
 
-    -- over a lone holder
-    module _ (a : alone) (under : x.end ≤ end_of_table f (position_over f x.first level)) (over : OwnsOver f d x.first level f.levels) where
-      pub enough_frames : linked + length (lacking f v blocks (request_for x)) ≤ v.frames
-      enough_frames =
+    -- over a lone holder, where so many positions were linked before
+    module _ (aside : Aside) (is : linked ≡ linked_count v aside) (a : alone) (under : x.end ≤ end_of_table f (position_over f x.first level)) (over : OwnsOver f d x.first level f.levels) where
+      pub links_all : LinksAll f v (rested w) aside blocks x
+      links_all =
           let all = all_here alone a under over m.absent m.are_absent.once m.are_absent.missing (m.are_absent.all a) in
-          let r = m.room a in let n = frames_same in omega arith
+          let room = m.room a in let frames = frames_same in
+          let more = tables_more good v blocks stand.extent stand.start stand.few stand.top w.tables stand.sorted sorted_after tables_same in
+          let top : w.top ≡ v.top = m.top ∙ stand.walked.book.top in
+          let levels : w.levels ≡ v.levels = m.range.levels ∙ stand.walked.range.levels in
+          let spine : length (levels_between (starting_top w.levels) w.top) ≡ length (levels_between (starting_top v.levels) v.top) = (λ i. length (levels_between (starting_top (levels i)) (top i))) in
+          record { enough = omega arith; linked = omega arith }
 
-      pub linked_more : (linked_after : ℕ) → (IsSorted d.tables → OwnsOver f d x.first level f.levels → linked_after + length d.tables ≡ linked + length w.tables) →
-          linked_after ≡ linked + length (lacking f v blocks (request_for x))
-      linked_more linked_after counts =
-          let sums = counts (subst (λ (ps : List Position). IsSorted ps) (sym stand.walked.book.tables) stand.sorted) over in
-          let same : length d.tables ≡ length v.tables = ap (λ (ps : List Position). length ps) stand.walked.book.tables in
-          let more = tables_more f good v blocks x stand.part stand.starts stand.high w.tables stand.sorted sorted_after tables_same in
-          omega arith
+  -- The extent was refused.
+  module _ {alone : Type 0} {linked : ℕ} {w : View} {e : MapRefused} (r : RefusedBelow f tells alone linked d w x level e) where
+    pub stays_refused : v.path ≡ [] → IsRefused f tells v (rested w)
+    stays_refused path =
+        let s = r.stays in
+        record {
+          range = range_rested v w (range_on stand.walked.range s.range);
+          book = book_rested v w (book_on stand.walked.book s.book);
+          path = sym path;
+          prepared = s.prepared ∙ stand.walked.prepared;
+          end = s.end ∙ stand.walked.purse.end;
+          purse = (s.purse.0, s.purse.1 ∙ ap (λ (xs : List ℕ). s.purse.0 ++ xs) purse_same);
+          known = λ p k. s.known p (stand.walked.known p k);
+          busy = λ frame k. s.busy frame ((stand.walked.busy frame).1 k);
+          grew = λ t. let g = s.grew t in grew_on w t g.0 (g.1, g.2);
+          stores = λ t. s.stores t ∙ stand.walked.stores t;
+        }
 
-  -- The part was refused.
-  module _ (alone : Type 0) (w : View) (linked : ℕ) where
-    pub stays_refused : (e : MapRefused) → IsRefused f tells d w × KeepsPurse d w e → v.path ≡ [] → IsRefused f tells v (rested w) × KeepsPurse v (rested w) e
-    stays_refused e h path =
-        let r = h.0 in (
-          record {
-            range = range_rested v w (same_range_on v d w stand.walked.range r.range);
-            book = book_rested v w (same_book_on v d w stand.walked.book r.book);
-            path = sym path;
-            prepared = r.prepared ∙ stand.walked.prepared;
-            end = r.end ∙ stand.walked.purse.end;
-            purse = (r.purse.0, r.purse.1 ∙ ap (λ (xs : List ℕ). r.purse.0 ++ xs) purse_same);
-            known = λ p k. r.known p (stand.walked.known p k);
-            busy = λ frame k. r.busy frame ((stand.walked.busy frame).1 k);
-            grew = λ t. let g = r.grew t in grew_on w t g.0 (g.1, g.2);
-            stores = λ t. r.stores t ∙ stand.walked.stores t;
-          },
-          purse_on e h.1,
-        )
-      where
-        purse_on : (e : MapRefused) → KeepsPurse d w e → KeepsPurse v (rested w) e
-        purse_on (refused.NoFrames absent held) k = tt
-        purse_on refused.Misaligned k = k ∙ purse_same
-        purse_on refused.OutsideLease k = k ∙ purse_same
-        purse_on refused.OutputRange k = k ∙ purse_same
-        purse_on (refused.Occupied address) k = k ∙ purse_same
-
-    pub full_refused : (e : MapRefused) → IsRefused f tells d w × KeepsPurse d w e → HasNoEmptyTable f w
-    full_refused e h =
-        let book = same_book_on v d w stand.walked.book h.0.book in
+    pub full_refused : HasNoEmptyTable f w
+    full_refused =
+        let book = book_on stand.walked.book r.stays.book in
         λ p m.
         let y = stand.full p (subst (λ (ps : List Position). IsAmong ps p) book.tables m) in
         (y.0, subst (λ ps. IsOneOf ps y.0) (sym book.pieces) y.1, y.2, y.3)
 
-    pub is_refused : (e : MapRefused) → IsRefusedBelow f tells alone d w x level linked e → (refusal : Option MapRefusal) →
-        refusal ≡ option_map (λ page. Occupied (byte_at f page)) (lowest_mapped (book_of v blocks) x.first x.end) → refusal ≡ refusal_of e
-    is_refused (refused.NoFrames absent held) h refusal is = is ∙ ap (λ o. option_map (λ page. Occupied (byte_at f page)) o) (none_there h.0)
-    is_refused (refused.Occupied address) h refusal is =
-        is ∙ ap (λ o. option_map (λ page. Occupied (byte_at f page)) o) (first_mapped f good v blocks stand.rest stand.lawful stand.owns x.first x.end h.0 (lowest_on f v d x.first x.end h.0 stand.walked.book h.2))
+  pub keeps_purse : (w : View) (e : MapRefused) → KeepsPurse d w e → KeepsPurse v (rested w) e
+  keeps_purse w (refused.NoFrames absent held) k = tt
+  keeps_purse w refused.Misaligned k = k ∙ purse_same
+  keeps_purse w refused.OutsideLease k = k ∙ purse_same
+  keeps_purse w refused.OutputRange k = k ∙ purse_same
+  keeps_purse w (refused.Occupied address) k = k ∙ purse_same
+
+  -- why it was refused
+  module _ (alone : Type 0) (linked : ℕ) (w : View) where
+    pub is_refused : (e : MapRefused) → HasCause f tells alone linked d w x level e → occupied f x (book_of v blocks) ≡ refusal_of e
+    is_refused (refused.NoFrames absent held) h = ap (λ o. option_map (λ page. Occupied (byte_at f page)) o) (none_there h.0)
+    is_refused (refused.Occupied address) h =
+        ap (λ o. option_map (λ page. Occupied (byte_at f page)) o) (first_mapped good stand.rest stand.lawful stand.owns x.first x.end h.0 (lowest_on stand.walked.book h.2))
         ∙ ap (λ (n : ℕ). Some (Occupied n)) (sym h.1)
-    is_refused refused.Misaligned h refusal is = absurd h
-    is_refused refused.OutsideLease h refusal is = absurd h
-    is_refused refused.OutputRange h refusal is = absurd h
+    is_refused refused.Misaligned h = absurd h
+    is_refused refused.OutsideLease h = absurd h
+    is_refused refused.OutputRange h = absurd h
 
     -- want of frames
-    module _ (absent held : ℕ) (n : Counted f tells alone d w (needs_below f f.levels x level) (d.frames + 1) absent) (l : LacksFrames tells alone d w linked absent held) where
+    module _ {absent held : ℕ} (n : Counted f tells alone d w (tables_below f x level) (d.frames + 1) absent) (l : LacksFrames tells alone linked d w absent held) where
       each_found : tells → FindsEach d w → FindsEach v (rested w)
       each_found t each = record {
         drawn = each.drawn;
@@ -261,7 +262,7 @@ module _ (f : Layout) (good : IsLayout f) (tells : Type 0) (v d : View) (blocks 
         ];
       }
 
-      wants : WantsFrames f tells v (rested w) blocks (request_for x) absent held
+      wants : WantsFrames f tells v (rested w) blocks x absent held
       wants = record {
         more = l.more;
         held_is = l.held_is;
@@ -274,10 +275,10 @@ module _ (f : Layout) (good : IsLayout f) (tells : Type 0) (v d : View) (blocks 
       }
 
       is_short : alone → x.end ≤ end_of_table f (position_over f x.first level) → OwnsOver f d x.first level f.levels →
-          (v.frames < linked + length (lacking f v blocks (request_for x))) × (absent ≡ min (v.frames + 1) (length (lacking f v blocks (request_for x))))
+          (v.frames < linked + length (lacking f v blocks x)) × (absent ≡ min (v.frames + 1) (length (lacking f v blocks x)))
       is_short a under over =
           let c = n.count_is in let s = frames_same in let more = l.more in let is = l.held_is in
-          let most = absent_most f good v blocks x stand.part stand.starts stand.high level stand.below n.absent n.once (λ p h. missing_here p (n.missing p h)) in
+          let most = absent_most good v blocks stand.extent stand.start stand.few stand.top level stand.below n.absent n.once (λ p h. missing_here p (n.missing p h)) in
           elim (cases_lt absent (d.frames + 1)) [
             | inl fits ↦
                 let all = all_here alone a under over n.absent n.once n.missing (n.all a fits) in
@@ -288,16 +289,16 @@ module _ (f : Layout) (good : IsLayout f) (tells : Type 0) (v d : View) (blocks 
             | inr many ↦ (omega arith, omega arith)
           ]
 
-    pub is_wanting : (e : MapRefused) → IsRefusedBelow f tells alone d w x level linked e → IsWanting f tells v (rested w) blocks (request_for x) e
-    is_wanting (refused.NoFrames absent held) h = wants absent held h.1 h.2
+    pub is_wanting : (e : MapRefused) → HasCause f tells alone linked d w x level e → IsWanting f tells v (rested w) blocks x e
+    is_wanting (refused.NoFrames absent held) h = wants h.1 h.2
     is_wanting refused.Misaligned h = tt
     is_wanting refused.OutsideLease h = tt
     is_wanting refused.OutputRange h = tt
     is_wanting (refused.Occupied address) h = tt
 
     pub is_short_of : alone → x.end ≤ end_of_table f (position_over f x.first level) → OwnsOver f d x.first level f.levels →
-        (e : MapRefused) → IsRefusedBelow f tells alone d w x level linked e → IsShortOf f v blocks (request_for x) linked e
-    is_short_of a under over (refused.NoFrames absent held) h = is_short absent held h.1 h.2 a under over
+        (e : MapRefused) → HasCause f tells alone linked d w x level e → IsShortOf f v linked blocks x e
+    is_short_of a under over (refused.NoFrames absent held) h = is_short h.1 h.2 a under over
     is_short_of a under over refused.Misaligned h = tt
     is_short_of a under over refused.OutsideLease h = tt
     is_short_of a under over refused.OutputRange h = tt

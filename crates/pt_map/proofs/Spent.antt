@@ -3,7 +3,7 @@ use Rattle.std.proofs.Common.{◌≡◌, ℕ, ◌+◌, ◌<◌, ◌≤◌, List,
 use Rattle.std.specs.Prelude.{◌⊎◌}
 use Rattle.std.proofs.lemmas.Bool.{cases_Bool}
 use Rattle.pt_model.specs.declared.position.Position.{Position}
-use Rattle.pt_model.specs.Tables.{is_same}
+use Rattle.pt_model.specs.Tables.{is_same, needed}
 use Rattle.pt_model.proofs.Positions.{is_same_true}
 use Rattle.pt_view.specs.declared.view.View.{View}
 use Rattle.pt_model.specs.Sets.{IsAmong, one_if, places}
@@ -58,11 +58,6 @@ without_each p (q ∷ qs) r h = elim (cases_Bool (is_same r q)) [
         ]
       ]
 ]
-
--- a list that has a position is not empty
-pub among_some : (ps : List Position) (p : Position) → IsAmong ps p → 0 < length ps
-among_some [] p h = absurd (omega arith)
-among_some (q ∷ qs) p h = omega arith
 
 -- nothing is spent
 pub spends_none : (v w : View) (lacking : List Position) → w.purse ≡ v.purse → Spends v w lacking lacking

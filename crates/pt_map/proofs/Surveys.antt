@@ -1,23 +1,38 @@
--- What a look through a part found, of a run of its blocks, of the part under an entry, and of one part after another.
-use Rattle.std.proofs.Common.{◌≡◌, ℕ, ◌≤◌, List, [], sym, subst, arith}
+-- What a look through an extent found, of a run of its blocks, of what lies under an entry, and of one part after another.
+use Rattle.std.proofs.Common.{◌≡◌, ℕ, ◌+◌, ◌-◌, ◌*◌, ◌%◌, ◌^◌, ◌<◌, ◌≤◌, List, [], length, min, inl, refl, ap, sym, ◌∙◌, subst, arith}
 use Rattle.std.specs.Prelude.{nat_lt}
 use Rattle.std.proofs.lemmas.Bool.{ltb-true}
 use Rattle.pt_model.specs.declared.position.Position.{Position}
 use Rattle.pt_model.specs.Layout.{Layout}
+use Rattle.pt_format.specs.Laws.{IsLayout}
+use Rattle.pt_view.specs.Calls.{Went, left}
+use Rattle.pt_view.specs.declared.holder.Seen.{Seen}
+use Rattle.pt_view.specs.declared.holder.Seen.TheVariants.{Empty, Leaf, Entered}
 use Rattle.pt_view.specs.declared.view.View.{View}
 use Rattle.pt_model.specs.Sets.{IsAmong}
 use Rattle.pt_view.specs.Views.{SameBook}
-use Rattle.pt_walk.specs.Walks.{IsFree, IsLowest, Walked}
-use Rattle.pt_walk.proofs.Ranges.{free_on, lowest_more, lowest_on}
-use Rattle.pt_map.specs.declared.part.Part.{Part}
+use Rattle.pt_walk.specs.Walks.{IsFree, IsLowest}
+use Rattle.pt_view.specs.Loads.{ByLoads}
+use Rattle.pt_view.specs.Pieces.{entry_number}
+use Rattle.pt_view.proofs.Loads.{loads_on, IsLoad, back_loads, back_path, leaf_loads, load_leaf, load_none, none_loads}
+use Rattle.pt_walk.proofs.Descent.{owns_on}
+use Rattle.pt_walk.proofs.Ranges.{clear_below, clear_from, free_here, free_more, free_on, lowest_here, lowest_more, lowest_on}
+use Rattle.pt_tile.specs.declared.extent.Extent.{Extent}
 use Rattle.pt_map.specs.declared.survey.Found.{Found}
 use Rattle.pt_map.specs.declared.survey.Found.TheVariants.{Mapped, Absent}
-use Rattle.pt_map.specs.Parts.{needs, needs_below}
-use Rattle.pt_map.specs.Absent.{Counted, IsLooked, IsSurveyed}
-use Rattle.pt_map.proofs.Among.{among_filtered}
+use Rattle.pt_map.specs.Absent.{Counted, Finds, MaySurvey, Surveyed}
+use Rattle.pt_model.proofs.Positions.{among_filtered}
+use Rattle.pt_tile.specs.Extents.{tables_below, tables_of, IsFirstTo, IsRun, first_size, under_entry, up_to, from}
+use Rattle.pt_map.proofs.Gone.{HasGone, gone_more, inner_at, inner_clear, rest_clear, run_none, rest_at}
+use Rattle.pt_map.specs.Stands.{IsEntryExtent}
+use Rattle.pt_map.proofs.Stand.{at_moves, keeps_here}
+use Rattle.pt_map.proofs.Absences.{open_counted, open_part, shut_counted}
+use Rattle.pt_tile.proofs.FirstParts.{cut_part, cut_step, first_to}
+use Rattle.pt_map.proofs.Links.{next_is}
+use Rattle.pt_tile.proofs.RunTilings.{run_from, run_shifted}
 
 -- a walk counts nothing where nothing is needed
-pub nothing_counted : (f : Layout) (tells alone : Type 0) (v w : View) (needed : List Position) (cap : ℕ) → Walked tells v w → ((p : Position) → IsAmong needed p → ⊥) → Counted f tells alone v w needed cap 0
+pub nothing_counted : (f : Layout) (tells alone : Type 0) (v w : View) (needed : List Position) (cap : ℕ) → ByLoads tells v w → ((p : Position) → IsAmong needed p → ⊥) → Counted f tells alone v w needed cap 0
 nothing_counted f tells alone v w needed cap walked none = record {
   absent = [];
   count_is = omega arith;
@@ -25,28 +40,130 @@ nothing_counted f tells alone v w needed cap walked none = record {
   missing = λ p h. absurd (omega arith);
   others = λ few p h. absurd (none p h);
   all = λ a few p h. absurd (none p h);
-  told = λ t. ((walked.absent t).0, (walked.absent t).1, λ p h. absurd (omega arith));
+  told = λ t. let a = walked.absent t in (a.facts, a.are, λ p h. absurd (omega arith));
 }
 
 -- the lowest table needs none below it
-pub none_lowest : (f : Layout) (x : Part) (level : ℕ) → level ≡ 0 → (p : Position) → IsAmong (needs_below f f.levels x level) p → ⊥
-none_lowest f x level e p h = let low = ltb-true p.level level (among_filtered (λ q. nat_lt q.level level) (needs f f.levels x) p h).1 in omega arith
-
--- of blocks that need nothing below the level
-pub looked_found : (f : Layout) (tells alone : Type 0) (v w : View) (x : Part) (level cap : ℕ) (found : Found) → Walked tells v w → ((p : Position) → IsAmong (needs_below f f.levels x level) p → ⊥) →
-    IsLooked f v x.first x.end found → IsSurveyed f tells alone v w x level cap found
-looked_found f tells alone v w x level cap (Mapped page) walked none h = h
-looked_found f tells alone v w x level cap (Absent count) walked none h =
-    (h.0, subst (λ (n : ℕ). Counted f tells alone v w (needs_below f f.levels x level) cap n) (sym h.1) (nothing_counted f tells alone v w (needs_below f f.levels x level) cap walked none))
+pub none_lowest : (f : Layout) (x : Extent) (level : ℕ) → level ≡ 0 → (p : Position) → IsAmong (tables_below f x level) p → ⊥
+none_lowest f x level e p h = let low = ltb-true p.level level (among_filtered (λ q. nat_lt q.level level) (tables_of f x) p h).1 in omega arith
 
 -- from the table below to the one above
-pub found_above : (f : Layout) (tells alone alone' : Type 0) (v w u z : View) (x : Part) (level lower cap : ℕ) (found : Found) → SameBook v w →
-    ((count : ℕ) → Counted f tells alone' w u (needs_below f f.levels x lower) cap count → Counted f tells alone v z (needs_below f f.levels x level) cap count) →
-    IsSurveyed f tells alone' w u x lower cap found → IsSurveyed f tells alone v z x level cap found
-found_above f tells alone alone' v w u z x level lower cap (Mapped page) book counted h = lowest_on f v w x.first x.end page book h
-found_above f tells alone alone' v w u z x level lower cap (Absent count) book counted h = (free_on f v w x.first x.end book h.0, counted count h.1)
+pub found_above : (f : Layout) (tells alone alone' : Type 0) (v w u z : View) (x : Extent) (level lower cap : ℕ) (found : Found) → SameBook v w →
+    ((count : ℕ) → Counted f tells alone' w u (tables_below f x lower) cap count → Counted f tells alone v z (tables_below f x level) cap count) →
+    Finds f tells alone' w u x lower cap found → Finds f tells alone v z x level cap found
+found_above f tells alone alone' v w u z x level lower cap (Mapped page) book counted h = lowest_on book h
+found_above f tells alone alone' v w u z x level lower cap (Absent count) book counted h = (free_on f x.first x.end book h.0, counted count h.1)
 
 -- a mapped page of what is left of a part, where no page before it is mapped
-pub found_later : (f : Layout) (v w : View) (x rest : Part) (to page : ℕ) → SameBook v w → x.first ≤ rest.first → to ≤ x.end → IsFree f v x.first rest.first →
+pub found_later : (f : Layout) (v w : View) (x rest : Extent) (to page : ℕ) → SameBook v w → x.first ≤ rest.first → to ≤ x.end → IsFree f v x.first rest.first →
     IsLowest f w rest.first to page → IsLowest f v x.first x.end page
-found_later f v w x rest to page book low high before h = lowest_more f v x.first x.end rest.first to page low high before (lowest_on f v w rest.first to page book h)
+found_later f v w x rest to page book low high before h = lowest_more x.first x.end low high before (lowest_on book h)
+
+-- What is left of an extent may be looked through.
+module _ {f : Layout} (good : IsLayout f) {tells alone : Type 0} {v w : View} {x rest : Extent} {level cap count : ℕ} (may : MaySurvey f v x level cap) (gone : HasGone f tells alone v w x rest level cap count) where
+  pub may_survey_rest : rest.first < rest.end → MaySurvey f w rest level cap
+  may_survey_rest more = record {
+    at = rest_at good may.at gone more;
+    clear = rest_clear good may.at gone more may.clear;
+    owns = owns_on f gone.walked.range gone.walked.book may.owns;
+    fits = may.fits;
+  }
+
+-- A run of blocks of the first one's size, which stand in the table of the level or above, may be looked through.
+module _ {f : Layout} (good : IsLayout f) {v : View} {x : Extent} {level cap : ℕ} (may : MaySurvey f v x level cap) (k : ℕ) (e : k ≡ first_size f x) {count : ℕ} (is : IsRun f x count) (large : f.index * level ≤ first_size f x)
+    (to : ℕ) (shifted : to ≡ x.first + count * 2 ^ k % 2 ^ 64) where
+  to_is : to ≡ x.first + count * 2 ^ first_size f x
+  to_is = shifted ∙ run_shifted good may.at.extent is k e
+
+  pub run_first : IsFirstTo f level x to
+  run_first = inl (large, count, is, to_is)
+
+  module _ (y : Extent) (cut : y ≡ up_to x (min to x.end)) where
+    cut_is : y ≡ up_to x to
+    cut_is = cut ∙ ap (up_to x) (let within = is.within in let t = to_is in let e : min to x.end ≡ to = omega arith in e)
+
+    pub may_survey_run : MaySurvey f v y level cap
+    may_survey_run =
+        let from = run_from good may.at.extent is in let within = is.within in let t = to_is in let low = may.at.low in
+        let after : x.first < to = omega arith in
+        let before : to ≤ x.end = omega arith in
+        let less = cut_step good may.at.extent to after before in
+        subst (λ (z : Extent). MaySurvey f v z level cap) (sym cut_is) (record {
+          at = at_moves good may.at (cut_part good may.at.extent to after before) (let z : x.first ≤ x.first = omega arith in z) before (omega arith) (keeps_here v) refl;
+          clear = clear_from f v x.first x.end x.first to level may.clear (let z : x.first ≤ x.first = omega arith in z) before;
+          owns = may.owns;
+          fits = may.fits;
+        })
+
+    pub none_in_run : (p : Position) → IsAmong (tables_below f y level) p → ⊥
+    none_in_run p h = run_none good may.at.extent level large count is p (subst (λ (z : Extent). IsAmong (tables_below f z level) p) (cut_is ∙ ap (up_to x) to_is) h)
+
+    pub surveyed_run : {tells alone : Type 0} {w : View} {found : Found} → Surveyed f tells alone v w y level cap found → Surveyed f tells alone v w (up_to x to) level cap found
+    surveyed_run {tells = tells} {alone = alone} {w = w} {found = found} s = subst (λ (z : Extent). Surveyed f tells alone v w z level cap found) cut_is s
+
+-- What lies under the entry over the first page may be looked through.
+module _ {f : Layout} (good : IsLayout f) {v : View} {x : Extent} {level cap : ℕ} (may : MaySurvey f v x level cap) (low : first_size f x < f.index * level) (inner : Extent) (is : inner ≡ under_entry f level x) where
+  pub may_survey_inner : MaySurvey f v inner level cap
+  may_survey_inner = record { at = inner_at good may.at low inner is; clear = inner_clear good may.at low inner is may.clear; owns = may.owns; fits = may.fits }
+
+  pub surveyed_inner : {tells alone : Type 0} {w : View} {found : Found} → Surveyed f tells alone v w inner level cap found → Surveyed f tells alone v w (up_to x inner.end) level cap found
+  surveyed_inner {tells = tells} {alone = alone} {w = w} {found = found} s =
+      subst (λ (y : Extent). Surveyed f tells alone v w (up_to x y.end) level cap found) (sym is) (subst (λ (y : Extent). Surveyed f tells alone v w y level cap found) is s)
+
+-- The load of the entry under which an extent lies.
+module _ {f : Layout} (good : IsLayout f) {v : View} {x : Extent} {level cap : ℕ} (may : MaySurvey f v x level cap) (entry : IsEntryExtent f x level)
+    {tells alone : Type 0} {seen : Seen} {w : View} (load : IsLoad f tells alone v x.first level seen w) where
+  pub surveyed_empty : seen ≡ Empty → (count : ℕ) → count ≡ min cap (length (tables_below f x level)) → Surveyed f tells alone v w x level cap (Absent count)
+  surveyed_empty empty count is = record {
+    walked = none_loads load empty;
+    path = (load_none load empty).path;
+    finds = (free_here good may.at.range entry.one load empty may.owns may.clear, shut_counted good may.at entry load empty cap count is);
+  }
+
+  pub surveyed_leaf : (word : ℕ) → seen ≡ Leaf word → Surveyed f tells alone v w x level cap (Mapped x.first)
+  surveyed_leaf word leaf = record {
+    walked = leaf_loads load leaf;
+    path = (load_leaf load leaf).path;
+    finds = lowest_here good may.at.range entry.one load leaf may.owns;
+  }
+
+  module _ (entered : seen ≡ Entered) where
+    pub may_survey_inside : MaySurvey f w x (level - 1) cap
+    may_survey_inside = record {
+      at = open_part good may.at entry load entered;
+      clear = clear_below good may.at.range entry.one load entered may.owns may.clear;
+      owns = owns_on f load.went.range load.went.book may.owns;
+      fits = may.fits;
+    }
+
+    pub surveyed_entered : {alone' : Type 0} → (alone → alone') → {u z : View} {found : Found} → Surveyed f tells alone' w u x (level - 1) cap found → z ≡ left u → Surveyed f tells alone v z x level cap found
+    surveyed_entered {alone' = alone'} still {u = u} {z = z} {found = found} s e = record {
+      walked = back_loads load entered s.walked s.path e;
+      path = back_path load entered s.walked s.path e;
+      finds = found_above f tells alone alone' v w u z x level (level - 1) cap found load.went.book
+          (open_counted good may.at entry load entered s.walked s.path alone' still z e cap) s.finds;
+    }
+
+-- One more part of an extent was looked through.
+module _ {f : Layout} (good : IsLayout f) {tells alone alone' : Type 0} {v w z : View} {x rest : Extent} {level cap count to : ℕ} {found : Found} (may : MaySurvey f v x level cap) (gone : HasGone f tells alone v w x rest level cap count)
+    (more : rest.first < rest.end) (still : alone → alone') (is : IsFirstTo f level rest to) (free : IsFree f v x.first rest.first) (s : Surveyed f tells alone' w z (up_to rest to) level cap found) where
+  pub gone_on : (number : ℕ) → found ≡ Absent number → (next : Extent) → next ≡ from rest to → (sum : ℕ) → sum ≡ min cap (count + number) → HasGone f tells alone v z x next level cap sum
+  gone_on number e next next_is sum sum_is =
+      let f' = subst (Finds f tells alone' w z (up_to rest to) level cap) e s.finds in
+      gone_more good may.at gone more still s.walked s.path to is f'.1 next next_is sum sum_is
+
+  pub free_on_to : (number : ℕ) → found ≡ Absent number → IsFree f v x.first to
+  free_on_to number e =
+      let f' = subst (Finds f tells alone' w z (up_to rest to) level cap) e s.finds in
+      free_more f v x.first rest.first to free (free_on f rest.first to gone.walked.book f'.0)
+
+  pub surveyed_mapped : (page : ℕ) → found ≡ Mapped page → Surveyed f tells alone v z x level cap (Mapped page)
+  surveyed_mapped page e =
+      let lowest : IsLowest f w rest.first to page = subst (Finds f tells alone' w z (up_to rest to) level cap) e s.finds in
+      let within = first_to good (rest_at good may.at gone more).extent level to is in
+      let end = gone.end in
+      record {
+        walked = loads_on gone.walked s.walked;
+        path = s.path ∙ gone.path;
+        finds = found_later f v w x rest to page gone.walked.book gone.first (omega arith) free lowest;
+      }

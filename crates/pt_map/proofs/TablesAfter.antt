@@ -8,33 +8,32 @@ use Rattle.pt_model.specs.declared.block.Block.{Block}
 use Rattle.pt_model.specs.declared.block.Prot.{Prot}
 use Rattle.pt_model.specs.declared.position.Position.{Position}
 use Rattle.pt_model.specs.Layout.{Layout, end_of, is_size, level_of_size, pages_of_table}
-use Rattle.pt_model.specs.Tables.{add_positions, end_of_table, is_before, is_spine, needed, position_over}
+use Rattle.pt_model.specs.Tables.{add_positions, end_of_table, is_before, is_spine, needed, position_over, all_needed}
 use Rattle.pt_model.specs.Tiling.{IsTiling}
-use Rattle.pt_model.specs.Sets.{IsSorted, Member, IsAmong}
+use Rattle.pt_model.specs.Sets.{IsSorted, IsAmong}
 use Rattle.pt_model.specs.Book.{table_lies_in}
-use Rattle.pt_model.proofs.Positions.{adds_by_members, filter_members, member_filtered, member_passes}
+use Rattle.pt_model.proofs.Positions.{among_none, adds_by_members, filter_members, among_filtered, among_passes, among_cases}
 use Rattle.pt_model.proofs.TilingFacts.{tiling_is}
 use Rattle.pt_format.specs.Laws.{IsLayout}
 use Rattle.pt_view.specs.declared.view.View.{View}
 use Rattle.pt_view.specs.declared.view.Piece.{Piece}
 use Rattle.pt_view.specs.Pieces.{IsOneOf, add_piece, add_pieces, all_pieces, first_of, pieces_of, words_of}
 use Rattle.pt_walk.specs.Walks.{IsFree}
-use Rattle.pt_walk.proofs.Books.{is_part, piece_at}
-use Rattle.pt_map.specs.declared.part.Part.{Part}
-use Rattle.pt_map.specs.Parts.{IsPart, needs, tiles}
-use Rattle.pt_map.specs.Filled.{IsBlockOf}
-use Rattle.pt_map.specs.Answers.{HasNoEmptyTable, book_after, request_for}
-use Rattle.pt_map.proofs.Among.{among_member, member_among}
-use Rattle.pt_map.proofs.Needs.{AnyNeeds, needs_any, needs_of_block}
+use Rattle.pt_view.proofs.Members.{mapped_one, piece_at}
+use Rattle.pt_tile.specs.declared.extent.Extent.{Extent}
+use Rattle.pt_map.specs.Answers.{HasNoEmptyTable, book_with}
+use Rattle.pt_map.proofs.Needs.{AnyNeeds, needs_any, needs_of_block, needed_same}
 use Rattle.pt_map.proofs.FirstMapped.{piece_of_block}
+use Rattle.pt_tile.specs.Extents.{IsExtent, IsOneBlock, tables_of, tiles}
+use Rattle.pt_tile.proofs.FirstParts.{tile_of}
 
 -- Lists.
 
 -- the place of a member
-pub member_at : (ps : List Position) (p : Position) → Member ps p → (k : ℕ) × (k < length ps) × (slice_index_or ps k p ≡ p)
-member_at [] p m = absurd m
-member_at (q ∷ qs) p m = elim m [
-  | inl e ↦ (0, omega arith, e)
+pub member_at : (ps : List Position) (p : Position) → IsAmong ps p → (k : ℕ) × (k < length ps) × (slice_index_or ps k p ≡ p)
+member_at [] p m = absurd (among_none p m)
+member_at (q ∷ qs) p m = elim (among_cases p q qs m) [
+  | inl e ↦ (0, omega arith, sym e)
   | inr later ↦ (let h : (k : ℕ) × (k < length qs) × (slice_index_or qs k p ≡ p) = member_at qs p later in (suc h.0, (let s = h.1 in omega arith), h.2))
 ]
 
@@ -50,7 +49,7 @@ sorted_tables (q ∷ qs) pairs = (
 )
 
 -- a test that no block of a list passes
-none_lies : (f : Layout) (bs : List Block) (p : Position) → ((b : Block) → IsBlockOf bs b → table_lies_in f b.first (end_of b) p ≡ false) →
+none_lies : (f : Layout) (bs : List Block) (p : Position) → ((b : Block) → IsOneBlock bs b → table_lies_in f b.first (end_of b) p ≡ false) →
     list_any (λ b. table_lies_in f b.first (end_of b) p) bs ≡ false
 none_lies f [] p fails = refl
 none_lies f (b ∷ bs) p fails =
@@ -58,27 +57,12 @@ none_lies f (b ∷ bs) p fails =
     rw here (none_lies f bs p (λ c m. fails c (inr m)))
 
 -- a block of a list needs a position
-pub needing : (f : Layout) (l : ℕ) (bs : List Block) (p : Position) → AnyNeeds f l bs p → (b : Block) × IsBlockOf bs b × Member (needed f l b) p
+pub needing : (f : Layout) (l : ℕ) (bs : List Block) (p : Position) → AnyNeeds f l bs p → (b : Block) × IsOneBlock bs b × IsAmong (needed f l b) p
 needing f l [] p h = absurd h
 needing f l (b ∷ bs) p h = elim h [
   | inl m ↦ (b, inl refl, m)
-  | inr more ↦ (let r : (c : Block) × IsBlockOf bs c × Member (needed f l c) p = needing f l bs p more in (r.0, inr r.1, r.2))
+  | inr more ↦ (let r : (c : Block) × IsOneBlock bs c × IsAmong (needed f l c) p = needing f l bs p more in (r.0, inr r.1, r.2))
 ]
-
--- a block of a tiling lies in its range and begins at a multiple of its size, which is one of the format's
-pub tile_lies : (f : Layout) (prot : Prot) (s out left : ℕ) (bs : List Block) (b : Block) → IsTiling f prot s out left bs → IsBlockOf bs b →
-    (s ≤ b.first) × (end_of b ≤ s + left) × IsTrue (is_size f b.log2) × (b.first % 2 ^ b.log2 ≡ 0)
-tile_lies f prot s out left [] b t m = absurd m
-tile_lies f prot s out left (c ∷ bs) b t m =
-    let first : c.first ≡ s = ap (λ (d : Block). d.first) t.0 in
-    let fits = t.1.fits in
-    elim m [
-      | inl e ↦ subst (λ (d : Block). (s ≤ d.first) × (end_of d ≤ s + left) × IsTrue (is_size f d.log2) × (d.first % 2 ^ d.log2 ≡ 0)) e
-          (omega arith, omega arith, t.1.legal.a_size, ap (λ (n : ℕ). n % 2 ^ c.log2) first ∙ t.1.legal.first_aligned)
-      | inr later ↦
-          let h : (s + 2 ^ c.log2 ≤ b.first) × (end_of b ≤ s + 2 ^ c.log2 + (left - 2 ^ c.log2)) × IsTrue (is_size f b.log2) × (b.first % 2 ^ b.log2 ≡ 0) = tile_lies f prot (s + 2 ^ c.log2) (out + 2 ^ c.log2) (left - 2 ^ c.log2) bs b t.2 later in
-          (let low = h.0 in omega arith, let high = h.1 in omega arith, h.2, h.3)
-    ]
 
 -- pieces put among others are there, and the others stay
 
@@ -115,45 +99,38 @@ no_table_in f v first end full free p m from to =
     let low = x.2 in let high = x.3 in
     free (first_of f x.0) (omega arith) (omega arith) x.0 x.1 (omega arith, omega (arith, pow_pos (f.index * level_of_size f x.0.block.log2)))
 
-module _ (f : Layout) (good : IsLayout f) (v : View) (x : Part) (part : IsPart f x) where
-  pub part_tiling : IsTiling f x.prot x.first x.out (x.end - x.first) (tiles f x)
-  part_tiling = let some = part.some in let input = part.in_input in tiling_is f x.prot x.first x.out (x.end - x.first) good.has_pages (omega arith) part.in_output
-
-  pub tile_in : (b : Block) → IsBlockOf (tiles f x) b → (x.first ≤ b.first) × (end_of b ≤ x.end) × IsTrue (is_size f b.log2) × (b.first % 2 ^ b.log2 ≡ 0)
-  tile_in b m =
-      let some = part.some in
-      let h = tile_lies f x.prot x.first x.out (x.end - x.first) (tiles f x) b part_tiling m in
-      let high = h.1 in (h.0, omega arith, h.2, h.3)
-
-  pub none_in_blocks : HasNoEmptyTable f v → IsFree f v x.first x.end → (p : Position) → IsAmong v.tables p → (b : Block) → IsBlockOf (tiles f x) b →
+module _ {f : Layout} (good : IsLayout f) (v : View) {x : Extent} (part : IsExtent f x) where
+  pub none_in_blocks : HasNoEmptyTable f v → IsFree f v x.first x.end → (p : Position) → IsAmong v.tables p → (b : Block) → IsOneBlock (tiles f x) b →
       table_lies_in f b.first (end_of b) p ≡ false
   none_in_blocks full free p m b here = false_from_ne_true (table_lies_in f b.first (end_of b) p) (λ e.
       let h : (nat_le b.first p.base ≡ true) × (nat_le (end_of_table f p) (end_of b) ≡ true) = and_parts (nat_le b.first p.base) _ e in
       let low = leb-true b.first p.base h.0 in
       let high = leb-true (end_of_table f p) (end_of b) h.1 in
-      let t = tile_in b here in let from = t.0 in let to = t.1 in
+      let t = tile_of good part b here in let from = t.from in let to = t.to in
       no_table_in f v x.first x.end full free p m (omega arith) (omega arith))
 
   -- the tables after are those of the book machine
-  pub tables_after : (blocks : List Block) (tables : List Position) → v.levels ≡ f.levels → HasNoEmptyTable f v → IsFree f v x.first x.end → IsSorted v.tables → IsSorted tables →
-      ((p : Position) → IsAmong tables p ↔ (IsAmong v.tables p ⊎ (IsAmong (needs f f.levels x) p × (is_spine v.levels p ≡ false)))) →
-      tables ≡ (book_after f v blocks (request_for x)).tables
-  tables_after blocks tables starts full free sorted sorted_after same =
-      let all : List Position = needs f v.levels x in
+  pub tables_after : (blocks : List Block) (tables : List Position) → f.start ≤ v.levels → v.levels ≤ f.levels → HasNoEmptyTable f v → IsFree f v x.first x.end → IsSorted v.tables → IsSorted tables →
+      ((p : Position) → IsAmong tables p ↔ (IsAmong v.tables p ⊎ (IsAmong (tables_of f x) p × (is_spine v.levels p ≡ false)))) →
+      tables ≡ (book_with f v blocks x).tables
+  tables_after blocks tables start few full free sorted sorted_after same =
+      let all : List Position = all_needed f v.levels (tiles f x) in
       let off : Position → Bool = λ p. not (is_spine v.levels p) in
       let stays : filter (λ p. not (list_any (λ b. table_lies_in f b.first (end_of b) p) (tiles f x))) v.tables ≡ v.tables =
-      filter_members _ v.tables (λ p m. ap not (none_lies f (tiles f x) p (none_in_blocks full free p (member_among v.tables p m)))) in
+      filter_members _ v.tables (λ p m. ap not (none_lies f (tiles f x) p (none_in_blocks full free p (m)))) in
       let off_true : (p : Position) → is_spine v.levels p ≡ false → off p ≡ true = λ p e. ap not e in
       adds_by_members v.tables (filter off all) tables sorted sorted_after
-      (λ p m. elim ((same p).0 (member_among tables p m)) [
-        | inl old ↦ inl (among_member v.tables p old)
-        | inr new ↦ inr (member_passes off all p (subst (λ l. Member (needs f l x) p) (sym starts) (among_member (needs f f.levels x) p new.0)) (off_true p new.1))
-      ])
-      (λ p h. among_member tables p ((same p).1 (elim h [
-        | inl old ↦ inl (member_among v.tables p old)
-        | inr new ↦ (let r = member_filtered off all p new in
-            inr (member_among (needs f f.levels x) p (subst (λ l. Member (needs f l x) p) starts r.0), false_of (is_spine v.levels p) r.1))
-      ])))
+      (λ p. (
+        (λ m. elim ((same p).0 m) [
+          | inl old ↦ inl old
+          | inr new ↦ inr (among_passes off all p ((needed_same good part v.levels start few p new.1).1 new.0) (off_true p new.1))
+        ]),
+        (λ h. (same p).1 (elim h [
+          | inl old ↦ inl old
+          | inr new ↦ (let r = among_filtered off all p new in
+              let off = false_of (is_spine v.levels p) r.1 in inr ((needed_same good part v.levels start few p off).0 r.0, off))
+        ])),
+      ))
       ∙ ap (λ (ps : List Position). add_positions ps (filter off all)) (sym stays)
     where
       false_of : (b : Bool) → not b ≡ true → b ≡ false
@@ -161,23 +138,23 @@ module _ (f : Layout) (good : IsLayout f) (v : View) (x : Part) (part : IsPart f
       false_of false e = refl
 
   -- each table after has a piece under it
-  pub full_after : (w : View) → v.levels ≡ f.levels → HasNoEmptyTable f v → w.pieces ≡ add_pieces f v.pieces (all_pieces f (tiles f x)) →
-      ((p : Position) → IsAmong w.tables p → IsAmong v.tables p ⊎ (IsAmong (needs f f.levels x) p × (is_spine v.levels p ≡ false))) → HasNoEmptyTable f w
-  full_after w starts full pieces tables = λ p m. elim (tables p m) [
+  pub full_after : (w : View) → HasNoEmptyTable f v → w.pieces ≡ add_pieces f v.pieces (all_pieces f (tiles f x)) →
+      ((p : Position) → IsAmong w.tables p → IsAmong v.tables p ⊎ (IsAmong (tables_of f x) p × (is_spine v.levels p ≡ false))) → HasNoEmptyTable f w
+  full_after w full pieces tables = λ p m. elim (tables p m) [
     | inl old ↦
         (let y : (y : Piece) × IsOneOf v.pieces y × (p.base ≤ first_of f y) × (first_of f y < end_of_table f p) = full p old in
         (y.0, subst (λ (ps : List Piece). IsOneOf ps y.0) (sym pieces) (puts_keep f (all_pieces f (tiles f x)) v.pieces y.0 y.1), y.2, y.3))
     | inr new ↦
         (let r = needing f f.levels (tiles f x) p (needs_any f f.levels (tiles f x) p new.0) in
         let b : Block = r.0 in
-        let t = tile_in b r.1 in let to = t.1 in let input = part.in_input in
-        let over : position_over f b.first p.level ≡ p = (needs_of_block f good b t.2 (omega arith) p r.2).2 in
+        let t = tile_of good part b r.1 in let to = t.to in let input = part.in_input in
+        let over : position_over f b.first p.level ≡ p = (needs_of_block good b t.legal.a_size (omega arith) p r.2).2 in
         let base : b.first / pages_of_table f p.level * pages_of_table f p.level ≡ p.base = ap (λ (q : Position). q.base) over in
         let split = shr_split b.first (f.index * (p.level + 1)) in
         let rest = mod_below b.first (pages_of_table f p.level) (pow_pos (f.index * (p.level + 1))) in
         let y : Piece = piece_at b 0 in
         let first : first_of f y ≡ b.first = omega arith in
-        let here : IsOneOf (pieces_of f b) y = is_part b (words_of f b) 0 0 (omega arith) (omega (arith, pow_pos (b.log2 - f.index * level_of_size f b.log2))) in (
+        let here : IsOneOf (pieces_of f b) y = mapped_one (piece_at b) (words_of f b) 0 0 (omega arith) (omega (arith, pow_pos (b.log2 - f.index * level_of_size f b.log2))) in (
           y,
           subst (λ (ps : List Piece). IsOneOf ps y) (sym pieces) (puts_there f (all_pieces f (tiles f x)) v.pieces y (piece_of_block f (tiles f x) b y r.1 here)),
           omega arith,

@@ -4,34 +4,22 @@ use Rattle.std.specs.Prelude.{◌⊎◌, map}
 use Rattle.std.proofs.lemmas.Bool.{cases_Bool, cases_eq}
 use Rattle.pt_model.specs.declared.position.Position.{Position}
 use Rattle.pt_model.specs.Layout.{Layout}
-use Rattle.pt_model.specs.Tables.{is_same, position_over}
-use Rattle.pt_model.proofs.Positions.{is_same_self, is_same_true}
+use Rattle.pt_model.specs.Tables.{position_over}
+use Rattle.pt_model.proofs.Positions.{among_none, among_more, among_first, among_cases}
 use Rattle.pt_view.specs.declared.view.Node.{Node}
-use Rattle.pt_model.specs.Sets.{IsAmong, one_if}
+use Rattle.pt_model.specs.Sets.{IsAmong}
 use Rattle.pt_walk.specs.Walks.{IsWayDown}
+use Rattle.pt_tile.specs.Extents.{from}
 
 -- the positions of a path
 abbrev pub positions : List Node → List Position
 positions path = map (λ (x : Node). x.position) path
 
--- one position before others
-pub among_cases : (q : Position) (qs : List Position) (p : Position) → IsAmong (q ∷ qs) p → (p ≡ q) ⊎ IsAmong qs p
-among_cases q qs p h = elim (cases_Bool (is_same p q)) [
-  | inl e ↦ inl (is_same_true p q e)
-  | inr e ↦ inr (let none : one_if (is_same p q) ≡ 0 = ap one_if e in omega arith)
-]
-
-pub among_first : (q : Position) (qs : List Position) (p : Position) → p ≡ q → IsAmong (q ∷ qs) p
-among_first q qs p e = let one : one_if (is_same p q) ≡ 1 = ap one_if (is_same_self p q (sym e)) in omega arith
-
-pub among_more : (q : Position) (qs : List Position) (p : Position) → IsAmong qs p → IsAmong (q ∷ qs) p
-among_more q qs p h = omega arith
-
 -- the tables of a way down to a level are those over the page from it on
 pub way_tables : (f : Layout) (page n level : ℕ) (path : List Node) → IsWayDown f page n path → length path + level ≡ n → (p : Position) → IsAmong (positions path) p →
     (level ≤ p.level) × (p.level < n) × (position_over f page p.level ≡ p)
-way_tables f page n level [] way depth p h = absurd (omega arith)
-way_tables f page n level (x ∷ xs) way depth p h = elim (among_cases x.position (positions xs) p h) [
+way_tables f page n level [] way depth p h = absurd (among_none p h)
+way_tables f page n level (x ∷ xs) way depth p h = elim (among_cases p x.position (positions xs) h) [
   | inl e ↦
       let at : p.level ≡ n - 1 = ap (λ (q : Position). q.level) (e ∙ way.0) in
       (omega arith, omega arith, ap (position_over f page) at ∙ sym (e ∙ way.0))
@@ -42,8 +30,8 @@ pub tables_way : (f : Layout) (page n level : ℕ) (path : List Node) → IsWayD
     IsAmong (positions path) (position_over f page k)
 tables_way f page n level [] way depth k from to = absurd (omega arith)
 tables_way f page n level (x ∷ xs) way depth k from to = elim (cases_eq k (n - 1)) [
-  | inl last ↦ among_first x.position (positions xs) (position_over f page k) (ap (position_over f page) last ∙ sym way.0)
-  | inr more ↦ among_more x.position (positions xs) (position_over f page k) (tables_way f page (n - 1) level xs way.1 (omega arith) k from (omega arith))
+  | inl last ↦ among_first (position_over f page k) x.position (positions xs) (sym (sym (ap (position_over f page) last ∙ sym way.0)))
+  | inr more ↦ among_more (position_over f page k) x.position (positions xs) (tables_way f page (n - 1) level xs way.1 (omega arith) k from (omega arith))
 ]
 
 -- a way to one page is one to another page under its last table

@@ -7,14 +7,14 @@ use Rattle.pt_model.specs.Layout.{Layout, IsLegalBlock, end_of, level_of_size, p
 use Rattle.pt_model.specs.Tables.{position_over}
 use Rattle.pt_format.specs.Laws.{IsLayout}
 use Rattle.pt_tile.proofs.Begun.{coarse_is_fine, part_in}
-use Rattle.pt_view.specs.Pieces.{first_of, number_of, table_of, word_of, words_of}
+use Rattle.pt_view.specs.Pieces.{first_of, number_of, table_of, word_of, words_of, entry_number}
+use Rattle.pt_view.proofs.Entries.{entry_first_is}
 use Rattle.pt_view.specs.Calls.{entry_first, pieces_at}
-use Rattle.pt_walk.specs.Walks.{entry_number}
-use Rattle.pt_walk.proofs.OverPage.{entry_first_is, size_split}
-use Rattle.pt_walk.proofs.Quotients.{quotient, same_position, whole}
+use Rattle.pt_model.proofs.Quotients.{quotient, size_split, whole}
+use Rattle.pt_model.proofs.Positions.{same_position}
 use Rattle.pt_map.proofs.Puts.{piece_at, stands_at, stands_not}
 
-module _ (f : Layout) (good : IsLayout f) (b : Block) (legal : IsLegalBlock f b) (level : ℕ) (here : level_of_size f b.log2 ≡ level) where
+module _ {f : Layout} (good : IsLayout f) (b : Block) (legal : IsLegalBlock f b) (level : ℕ) (here : level_of_size f b.log2 ≡ level) where
   abbrev pub bits : ℕ
   bits = f.index * level
 

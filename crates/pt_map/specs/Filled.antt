@@ -1,29 +1,20 @@
--- What the writing of a part does to a view.
+-- What the writing of an extent does to a view.
 use Rattle.std.specs.Prelude.{◌≡◌, ◌⊎◌, ◌↔◌, ℕ, ◌+◌, ◌-◌, ◌<◌, ◌≤◌, List, [], ◌∷◌, ◌++◌, length, map, false, None}
 use Rattle.pt_model.specs.declared.block.Block.{Block}
 use Rattle.pt_model.specs.declared.position.Position.{Position}
 use Rattle.pt_model.specs.Layout.{Layout, end_of, input_pages, level_of_size}
-use Rattle.pt_model.specs.Sets.{IsSorted, AddsPositions, IsAmong}
-use Rattle.pt_model.specs.Tables.{is_spine, position_over, starting_top}
+use Rattle.pt_model.specs.Sets.{AddsPositions, IsAmong, IsSorted}
+use Rattle.pt_model.specs.Tables.{is_spine, position_over}
+use Rattle.pt_tile.specs.declared.extent.Extent.{Extent}
+use Rattle.pt_tile.specs.Extents.{IsOneBlock, blocks_of, extent_of, tables_below, tables_of, tiles}
 use Rattle.pt_view.specs.declared.view.View.{View}
 use Rattle.pt_view.specs.declared.view.Change.TheVariants.{Written}
 use Rattle.pt_view.specs.Lists.{SameFrames}
-use Rattle.pt_view.specs.Pieces.{add_pieces, all_pieces}
+use Rattle.pt_view.specs.Pieces.{add_pieces, all_pieces, entry_number}
+use Rattle.pt_view.specs.Loads.{AddsAbsences, IsInSpan, IsOver}
 use Rattle.pt_view.specs.Views.{SameRange}
 use Rattle.pt_view.specs.Calls.{pieces_at, with_table}
-use Rattle.pt_walk.specs.Walks.{AddsAbsences, IsInSpan, IsOver, IsWayDown, OwnsOver, entry_number}
-use Rattle.pt_map.specs.declared.part.Part.{Part}
-use Rattle.pt_map.specs.Parts.{IsPartAt, tiles}
-
--- each needed position is known or is one of the lacking ones, and the purse has a frame for each of these
-pub record HasRoom (v : View) (needed lacking : List Position) : Type 0 where
-  pub each : (p : Position) → IsAmong needed p → IsAmong v.known p ⊎ IsAmong lacking p
-  pub frames : length lacking ≤ length v.purse
-
--- a block is one of a list
-abbrev pub IsBlockOf : List Block → Block → Type 0
-IsBlockOf [] b = ⊥
-IsBlockOf (c ∷ cs) b = (c ≡ b) ⊎ IsBlockOf cs b
+use Rattle.pt_map.specs.Stands.{StandsAt}
 
 -- a table begins in a block, and is one of those below the table in which the block stands
 abbrev pub IsTableIn : Layout → Block → Position → Type 0
@@ -34,17 +25,29 @@ abbrev pub HasNoPiece : Layout → View → (first end : ℕ) → Type 0
 HasNoPiece f v first end =
     (page level : ℕ) → first ≤ page → page < end → pieces_at f (position_over f page level) (entry_number f level page) v.pieces ≡ 0
 
--- a part may be written from the path's last table, of this level
-pub record MayFill (f : Layout) (v : View) (x : Part) (level : ℕ) : Type 0 where
-  pub at : IsPartAt f v x level
+-- the words of an extent may be stored from the path's last table on down: no page of it is mapped, and no table of the
+-- book lies under an entry that a block of it takes
+pub record MayStore (f : Layout) (v : View) (x : Extent) (level : ℕ) : Type 0 where
+  pub stands : StandsAt f v x level
   pub no_piece : HasNoPiece f v x.first x.end
-  pub none : v.prepared ≡ None
-  -- no table of the book lies under an entry that a block takes
-  pub no_table : (p : Position) → IsAmong v.tables p → (b : Block) → IsBlockOf (tiles f x) b → ¬ IsTableIn f b p
-  -- the path's tables are those over the part, from the highest level down to this one, and the top is that of the format
-  pub way : IsWayDown f x.first f.levels v.path
-  pub depth : length v.path + level ≡ f.levels
-  pub top : starting_top v.levels ≤ v.top
+  pub no_table : (p : Position) → IsAmong v.tables p → (b : Block) → IsOneBlock (tiles f x) b → ¬ IsTableIn f b p
+
+-- each needed position is known or is one of the lacking ones, and the purse has a frame for each of these
+pub record HasRoom (v : View) (needed lacking : List Position) : Type 0 where
+  pub each : (p : Position) → IsAmong needed p → IsAmong v.known p ⊎ IsAmong lacking p
+  pub frames : length lacking ≤ length v.purse
+
+-- an extent may be written from there, with the tables that it needs below the level
+pub record MayFill (f : Layout) (v : View) (x : Extent) (level : ℕ) : Type 0 where
+  pub store : MayStore f v x level
+  pub lacking : List Position
+  pub room : HasRoom v (tables_below f x level) lacking
+
+-- so many equal blocks, of which this is the first, may be stored in that table
+pub record MayStoreRun (f : Layout) (v : View) (count : ℕ) (b : Block) (level : ℕ) : Type 0 where
+  pub may : MayStore f v (extent_of count b) level
+  pub tiled : tiles f (extent_of count b) ≡ blocks_of count b
+  pub here : level_of_size f b.log2 ≡ level
 
 -- the way to a page may go on from the path's last table, of this level, by a table under its entry
 pub record MayGoInto (f : Layout) (v : View) (page level : ℕ) : Type 0 where
@@ -83,6 +86,10 @@ pub record Spends (v w : View) (lacking still : List Position) : Type 0 where
   pub only : (p : Position) → IsAmong still p → IsAmong lacking p
   pub each : (p : Position) → IsAmong lacking p → IsAmong w.known p ⊎ IsAmong still p
 
+-- wherever there is room for needed tables, frames are spent on the lacking ones alone
+abbrev pub SpendsOn : (v w : View) → (needed : List Position) → Type 0
+SpendsOn v w needed = (lacking : List Position) → HasRoom v needed lacking → (still : List Position) × Spends v w lacking still
+
 -- blocks were written: their pieces are among the pieces, and the positions that they need among the tables
 pub record Filled (f : Layout) (tells : Type 0) (v w : View) (blocks : List Block) (needed : List Position) : Type 0 where
   pub range : SameRange v w
@@ -98,11 +105,13 @@ pub record Filled (f : Layout) (tells : Type 0) (v w : View) (blocks : List Bloc
   pub told : tells → (w.taken ≡ v.taken) × (w.stores ≡ v.stores ++ map Written (all_pieces f blocks))
   pub absent : tells → AddsAbsences v w
 
--- as many positions were linked as tables came to the book
-abbrev pub LinksTables : (v w : View) → (linked after : ℕ) → Type 0
-LinksTables v w linked after = after + length v.tables ≡ linked + length w.tables
+-- an extent was written from a table of this level on down, whose tables below it are known then
+pub record Fills (f : Layout) (tells : Type 0) (v w : View) (x : Extent) (level : ℕ) : Type 0 where
+  pub filled : Filled f tells v w (tiles f x) (tables_of f x)
+  pub spends : SpendsOn v w (tables_below f x level)
+  pub knows : (p : Position) → IsAmong (tables_below f x level) p → IsAmong w.known p
 
--- the same, over a lone holder whose tables are in order, where those over a page from a level on are linked
-abbrev pub CountsTables : Layout → (alone : Type 0) → (v w : View) → (page level linked after : ℕ) → Type 0
-CountsTables f alone v w page level linked after =
-    alone → IsSorted v.tables → OwnsOver f v page level f.levels → LinksTables v w linked after
+-- so many equal blocks were stored, and no frame was spent
+pub record StoresRun (f : Layout) (tells : Type 0) (v w : View) (count : ℕ) (b : Block) : Type 0 where
+  pub purse : w.purse ≡ v.purse
+  pub filled : Filled f tells v w (blocks_of count b) (tables_of f (extent_of count b))

@@ -1,4 +1,4 @@
-pub mod Parts
+pub mod Stands
 pub mod Absent
 pub mod Filled
 pub mod Answers

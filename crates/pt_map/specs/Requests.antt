@@ -1,25 +1,28 @@
 -- What the steps of a map do: the test of its numbers, the draw for absent tables, and the map from a table on down.
-use Rattle.std.specs.Prelude.{◌≡◌, ◌⊎◌, ◌↔◌, ℕ, ◌+◌, ◌-◌, ◌<◌, ◌≤◌, IsTrue, List, ◌++◌, false, length, map, None, option_map}
+use Rattle.std.specs.Prelude.{◌≡◌, ◌⊎◌, ◌↔◌, ℕ, ◌+◌, ◌-◌, ◌<◌, ◌≤◌, IsTrue, List, ◌++◌, false, length, map, min, Option, option_map, Result, Ok, Err}
+use Rattle.pt_model.specs.declared.block.Block.{Block}
+use Rattle.pt_model.specs.declared.block.Prot.{Prot}
 use Rattle.pt_model.specs.declared.position.Position.{Position}
 use Rattle.pt_model.specs.Layout.{Layout}
-use Rattle.pt_model.specs.Book.{Book, Occupied, lowest_mapped, map_refusal}
+use Rattle.pt_model.specs.Book.{Book, IsLawful, MapRefusal, Occupied, lowest_mapped, map_refusal}
 use Rattle.pt_model.specs.Pages.{byte_at}
-use Rattle.pt_model.specs.Sets.{IsSorted, IsAmong, places}
-use Rattle.pt_model.specs.Tables.{IsPosition, is_spine, starting_top}
+use Rattle.pt_model.specs.Sets.{IsAmong, IsSorted, places}
+use Rattle.pt_model.specs.Tables.{IsPosition, is_spine}
+use Rattle.pt_tile.specs.declared.extent.Extent.{Extent}
+use Rattle.pt_tile.specs.Extents.{IsExtent, tables_below, tables_of, tiles}
 use Rattle.pt_view.specs.declared.view.View.{View}
 use Rattle.pt_view.specs.declared.view.Absence.{Absence}
 use Rattle.pt_view.specs.declared.view.Change.TheVariants.{Written}
 use Rattle.pt_view.specs.Lists.{IsIn}
 use Rattle.pt_view.specs.Pieces.{add_pieces, all_pieces}
-use Rattle.pt_view.specs.Views.{SameRange}
-use Rattle.pt_walk.specs.Walks.{IsClear, IsFree, IsLowest, IsWayDown, OwnsAll}
+use Rattle.pt_view.specs.Views.{IsAtRest, SameRange, book_of}
+use Rattle.pt_walk.specs.Walks.{IsClear, IsFree, IsLowest, OwnsAll, Rests}
 use Rattle.pt_sweep.specs.Draws.{KeepsBook, SamePlace}
-use Rattle.pt_map.specs.declared.part.Part.{Part}
 use Rattle.pt_map.specs.declared.refused.MapRefused.{MapRefused}
 use Rattle.pt_map.specs.declared.refused.MapRefused.TheVariants as refused
 use Rattle.pt_map.specs.Absent.{Counted, IsMissing, is_shown}
-use Rattle.pt_map.specs.Answers.{FindsEach, HasNoEmptyTable, Request, refusal_of, request_for}
-use Rattle.pt_map.specs.Parts.{IsPart, IsPartAt, needs, needs_below, tiles}
+use Rattle.pt_map.specs.Answers.{FindsEach, HasNoEmptyTable, IsRefused, KeepsPurse, extent_at, refusal_of}
+use Rattle.pt_map.specs.Stands.{IsOwnTable, StandsAt}
 
 -- The numbers of a request.
 
@@ -37,14 +40,29 @@ pub record IsRefusedByNumbers (f : Layout) (first count va pa len : ℕ) (e : Ma
   pub of_numbers : IsOfNumbers e
   pub refusal : (book : Book) → Spans book first count → map_refusal f book va pa len ≡ refusal_of e
 
--- a part is the request, inside such a span, and what may still refuse it is a mapped page
-pub record IsRequested (f : Layout) (first count va pa len : ℕ) (r : Request) (x : Part) : Type 0 where
-  pub part : IsPart f x
+-- the refusal of an extent whose numbers are in order: a page of it is mapped
+abbrev pub occupied : Layout → Extent → Book → Option MapRefusal
+occupied f x book = option_map (λ page. Occupied (byte_at f page)) (lowest_mapped book x.first x.end)
+
+-- an extent lies inside a span of pages
+pub record IsInside (f : Layout) (first count : ℕ) (x : Extent) : Type 0 where
+  pub extent : IsExtent f x
   pub from : first ≤ x.first
   pub to : x.end ≤ first + count
-  pub request : request_for x ≡ r
-  pub refusal : (book : Book) → Spans book first count →
-      map_refusal f book va pa len ≡ option_map (λ page. Occupied (byte_at f page)) (lowest_mapped book x.first x.end)
+
+-- it is what the numbers of a request ask for, and what may still refuse it is a mapped page
+pub record IsRequested (f : Layout) (first count va pa len : ℕ) (prot : Prot) (x : Extent) : Type 0 where
+  pub inside : IsInside f first count x
+  pub is : x ≡ extent_at f va pa len prot
+  pub refusal : (book : Book) → Spans book first count → map_refusal f book va pa len ≡ occupied f x book
+
+-- an extent of a holder at rest may be mapped
+pub record MayMap (f : Layout) (v : View) (x : Extent) : Type 0 where
+  pub inside : IsInside f v.first v.count x
+  pub rest : Rests f v
+  pub full : HasNoEmptyTable f v
+  pub levels : f.start ≤ v.levels
+  pub lawful : (blocks : List Block) → IsAtRest f v blocks → IsLawful f v.levels (book_of v blocks)
 
 -- The draw for absent tables.
 
@@ -62,45 +80,52 @@ pub record Gathered (tells : Type 0) (v w : View) (absent : ℕ) : Type 0 where
 
 -- a purse has fewer frames than tables are absent; nothing was drawn where all frames are too few; over a lone holder they
 -- are, or each is linked or in the purse
-pub record LacksFrames (tells alone : Type 0) (v w : View) (linked absent held : ℕ) : Type 0 where
+pub record LacksFrames (tells alone : Type 0) (linked : ℕ) (v w : View) (absent held : ℕ) : Type 0 where
   pub more : held < absent
   pub held_is : held ≡ length w.purse
   pub idle : v.frames < absent → w.purse ≡ v.purse
   pub tried : tells → (v.frames < absent) ⊎ FindsEach v w
   pub all : alone → (v.frames < absent) ⊎ (linked + length w.purse ≡ v.frames)
 
-abbrev pub IsLackOf : (tells alone : Type 0) → (v w : View) → (linked absent : ℕ) → MapRefused → Type 0
-IsLackOf tells alone v w linked absent (refused.NoFrames count held) = (count ≡ absent) × LacksFrames tells alone v w linked absent held
-IsLackOf tells alone v w linked absent _ = ⊥
+abbrev pub IsLackOf : (tells alone : Type 0) → (linked : ℕ) → (v w : View) → (absent : ℕ) → MapRefused → Type 0
+IsLackOf tells alone linked v w absent (refused.NoFrames count held) = (count ≡ absent) × LacksFrames tells alone linked v w absent held
+IsLackOf tells alone linked v w absent _ = ⊥
+
+-- the purse has a frame for each absent table, and all frames are no fewer; over a lone holder these and the linked ones
+-- are no more than there are
+pub record HasFrames (alone : Type 0) (linked : ℕ) (v w : View) (absent : ℕ) : Type 0 where
+  pub held : absent ≤ length w.purse
+  pub frames : absent ≤ v.frames
+  pub few : alone → linked + length w.purse ≤ v.frames
+
+abbrev pub Gathers : (tells alone : Type 0) → (linked : ℕ) → (v w : View) → (absent : ℕ) → Result (Unit {0}) MapRefused → Type 0
+Gathers tells alone linked v w absent (Ok done) = Gathered tells v w absent × HasFrames alone linked v w absent
+Gathers tells alone linked v w absent (Err e) = Gathered tells v w absent × IsLackOf tells alone linked v w absent e
 
 -- The map from a table on down.
 
--- the part may be mapped from the path's last table, of this level, which is the lowest one over all of it that is linked
-pub record MayMap (f : Layout) (v : View) (x : Part) (level : ℕ) : Type 0 where
-  pub at : IsPartAt f v x level
+-- an extent may be mapped from the path's last table, of this level, which is the lowest one over all of it that is linked
+pub record MayMapBelow (f : Layout) (v : View) (x : Extent) (level : ℕ) : Type 0 where
+  pub stands : StandsAt f v x level
   pub owns : OwnsAll f v
   pub clear : IsClear f v x.first x.end level
-  pub none : v.prepared ≡ None
   pub positions : (p : Position) → IsAmong v.tables p → IsPosition f p
   pub full : HasNoEmptyTable f v
-  pub way : IsWayDown f x.first f.levels v.path
-  pub depth : length v.path + level ≡ f.levels
-  pub top : starting_top v.levels ≤ v.top
 
--- Needed positions that were found absent, each once: none is a table of the book or known, and over a lone holder those
--- that aren't among them are tables of the book.
-pub record AreAbsent (f : Layout) (alone : Type 0) (v : View) (needed absent : List Position) : Type 0 where
+-- Needed positions that were found absent, each once: none is a table of the book, of the spine or known, and over a lone
+-- holder those that aren't among them are tables of the book or of the spine.
+pub record AreAbsent (alone : Type 0) (v : View) (needed absent : List Position) : Type 0 where
   pub once : (p : Position) → places p absent ≤ 1
-  pub missing : (p : Position) → IsAmong absent p → IsMissing f v needed p
-  pub all : alone → (p : Position) → IsAmong needed p → IsAmong absent p ⊎ IsAmong v.tables p
+  pub missing : (p : Position) → IsAmong absent p → IsMissing v needed p
+  pub all : alone → (p : Position) → IsAmong needed p → IsAmong absent p ⊎ IsOwnTable v p
 
--- A part was mapped, from view v to view w. Frames were drawn for the absent tables, no more than the purse lacked, and
+-- An extent was mapped, from view v to view w. Frames were drawn for the absent tables, no more than the purse lacked, and
 -- no more were linked; over a lone holder there were frames for all that is linked before and for these tables. Where it
 -- is told what loads showed, each of these tables was shown absent.
-pub record MappedBelow (f : Layout) (tells alone : Type 0) (v w : View) (x : Part) (level linked : ℕ) : Type 0 where
+pub record MappedBelow (f : Layout) (tells alone : Type 0) (linked : ℕ) (v w : View) (x : Extent) (level : ℕ) : Type 0 where
   pub free : IsFree f v x.first x.end
   pub absent : List Position
-  pub are_absent : AreAbsent f alone v (needs_below f f.levels x level) absent
+  pub are_absent : AreAbsent alone v (tables_below f x level) absent
   pub drawn : List ℕ
   pub used : List ℕ
   pub purse : drawn ++ v.purse ≡ used ++ w.purse
@@ -114,7 +139,7 @@ pub record MappedBelow (f : Layout) (tells alone : Type 0) (v w : View) (x : Par
   pub end : w.end ≡ v.end
   pub top : w.top ≡ v.top
   pub pieces : w.pieces ≡ add_pieces f v.pieces (all_pieces f (tiles f x))
-  pub tables : (p : Position) → IsAmong w.tables p ↔ (IsAmong v.tables p ⊎ (IsAmong (needs f f.levels x) p × (is_spine v.levels p ≡ false)))
+  pub tables : (p : Position) → IsAmong w.tables p ↔ (IsAmong v.tables p ⊎ (IsAmong (tables_of f x) p × (is_spine v.levels p ≡ false)))
   pub in_order : IsSorted v.tables → IsSorted w.tables
   pub busy : (frame : ℕ) → IsIn v.busy frame → IsIn w.busy frame
   pub known : (p : Position) → IsAmong v.known p → IsAmong w.known p
@@ -122,9 +147,19 @@ pub record MappedBelow (f : Layout) (tells alone : Type 0) (v w : View) (x : Par
   pub taken : tells → (lost : List ℕ) × (w.taken ≡ v.taken ++ lost)
   pub stores : tells → w.stores ≡ v.stores ++ map Written (all_pieces f (tiles f x))
 
--- why a part wasn't mapped: the lowest page of it that is mapped, or the absent tables for which frames lack
-abbrev pub IsRefusedBelow : Layout → (tells alone : Type 0) → (v w : View) → Part → (level linked : ℕ) → MapRefused → Type 0
-IsRefusedBelow f tells alone v w x level linked (refused.Occupied address) = (page : ℕ) × (address ≡ byte_at f page) × IsLowest f v x.first x.end page
-IsRefusedBelow f tells alone v w x level linked (refused.NoFrames absent held) =
-    IsFree f v x.first x.end × Counted f tells alone v w (needs_below f f.levels x level) (v.frames + 1) absent × LacksFrames tells alone v w linked absent held
-IsRefusedBelow f tells alone v w x level linked _ = ⊥
+-- why it wasn't mapped: its lowest page that is mapped, or the absent tables for which frames lack
+abbrev pub HasCause : Layout → (tells alone : Type 0) → (linked : ℕ) → (v w : View) → Extent → (level : ℕ) → MapRefused → Type 0
+HasCause f tells alone linked v w x level (refused.Occupied address) = (page : ℕ) × (address ≡ byte_at f page) × IsLowest f v x.first x.end page
+HasCause f tells alone linked v w x level (refused.NoFrames absent held) =
+    IsFree f v x.first x.end × Counted f tells alone v w (tables_below f x level) (v.frames + 1) absent × LacksFrames tells alone linked v w absent held
+HasCause f tells alone linked v w x level _ = ⊥
+
+pub record RefusedBelow (f : Layout) (tells alone : Type 0) (linked : ℕ) (v w : View) (x : Extent) (level : ℕ) (e : MapRefused) : Type 0 where
+  pub stays : IsRefused f tells v w
+  pub purse : KeepsPurse v w e
+  pub cause : HasCause f tells alone linked v w x level e
+
+-- how a map from a table on down ends, where so many positions were linked before
+abbrev pub EndsBelow : Layout → (tells alone : Type 0) → (linked : ℕ) → (v w : View) → Extent → (level : ℕ) → Result (Unit {0}) MapRefused → Type 0
+EndsBelow f tells alone linked v w x level (Ok done) = MappedBelow f tells alone linked v w x level
+EndsBelow f tells alone linked v w x level (Err e) = RefusedBelow f tells alone linked v w x level e

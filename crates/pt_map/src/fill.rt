@@ -1,97 +1,68 @@
-//! The writing of a request: its tables are linked where they are absent, and its blocks are stored.
+//! The writing of an extent: its tables are linked where they are absent, and its blocks are stored.
 
-ghost use Rattle.pt_view.specs.Views.{Stays};
-ghost use Rattle.std.specs.Prelude.{◌≡◌, ◌⊎◌, ℕ, ◌+◌, ◌*◌, ◌<◌, ◌≤◌, List, [], ◌∷◌, length, false, IsTrue};
+ghost use Rattle.std.specs.Prelude.{◌≡◌, ℕ, ◌*◌, ◌<◌, List, [], ◌∷◌, length};
 ghost use Rattle.pt_model.specs.declared.position.Position.{Position};
-ghost use Rattle.pt_model.specs.Layout.{level_of_size};
-ghost use Rattle.pt_format.specs.Words.{GoBy};
-ghost use Rattle.pt_tile.specs.Sizes.{HasAllSizes};
 ghost use Rattle.pt_model.specs.Sets.{IsAmong};
-ghost use Rattle.pt_model.specs.Sets.{IsSorted};
-ghost use Rattle.pt_model.specs.Tables.{is_spine};
-ghost use Rattle.pt_walk.specs.Walks as walks;
-ghost use Rattle.pt_map.specs.Parts.{IsEntryPart, IsFirstTo, blocks_of, needs, needs_below, part_of, tiles};
-ghost use Rattle.pt_map.specs.Filled.{HasRoom, MayFill, MayGoInto, Filled, IsDeeper, Spends, CountsTables, LinksTables, next_table};
+ghost use Rattle.pt_format.specs.Words.{GoBy};
+ghost use Rattle.pt_tile.specs.Extents.{IsFirstTo, up_to};
+ghost use Rattle.pt_view.specs.Views.{Stays};
+ghost use Rattle.pt_view.specs.Pieces as pieces;
+ghost use Rattle.pt_map.specs.Stands.{IsEntryExtent};
+ghost use Rattle.pt_map.specs.Filled.{Fills, HasRoom, IsDeeper, MayFill, MayGoInto, MayStoreRun, Spends, SpendsOn, StoresRun, next_table};
 
-use crate::part::Part;
+use crate::entry::under_entry;
 use pt_format::{Block, Format, WordRun};
 use pt_num::align_down;
+use pt_tile::Extent;
 use pt_view::{Holder, Seen, Won};
 use pt_walk::{entry_bits, entry_number};
 
-/// Writes a part, from the path's last table, of this level. The path is in the end as it was.
+/// Writes an extent, from the path's last table, of this level. The path is in the end as it was.
 #[cycle(fill)]
-pub(crate) fn fill<F: Format, H: Holder<F>>(holder: &mut H, level: u32, part: Part, sizes: u64)
-    requires may { MayFill F.layout (H.view holder.old) part level }
-    requires fixed { F.layout.grows ≡ false }
-    requires sizes { HasAllSizes F.layout sizes }
-    requires room { (lacking : List Position) × HasRoom (H.view holder.old) (needs_below F.layout F.layout.levels part level) lacking }
+pub(crate) fn fill<F: Format, H: Holder<F>>(holder: &mut H, level: u32, extent: Extent)
+    requires { MayFill F.layout (H.view holder.old) extent level }
     ensures stays { Stays H.space H.aside H.alone holder.old holder.new }
-    ensures linked { H.alone holder.old → H.linked holder.new + length (H.view holder.new).purse ≡ H.linked holder.old + length (H.view holder.old).purse }
-    ensures filled { Filled F.layout H.tells (H.view holder.old) (H.view holder.new) (tiles F.layout part) (needs F.layout F.layout.levels part) }
-    ensures spends { (lacking : List Position) → HasRoom (H.view holder.old) (needs_below F.layout F.layout.levels part level) lacking → (still : List Position) × Spends (H.view holder.old) (H.view holder.new) lacking still }
-    ensures knows { (p : Position) → IsAmong (needs_below F.layout F.layout.levels part level) p → IsAmong (H.view holder.new).known p }
-    ensures counts { CountsTables F.layout (H.alone holder.old) (H.view holder.old) (H.view holder.new) part.first level (H.linked holder.old) (H.linked holder.new) }
+    ensures fills { Fills F.layout H.tells (H.view holder.old) (H.view holder.new) extent level }
 {
-    let mut rest = part;
+    let mut rest = extent;
     while rest.first < rest.end {
-        let to = fill_first::<F, H>(holder, level, rest, sizes);
+        let to = fill_first::<F, H>(holder, level, rest);
         rest = rest.from(to);
     }
 }
 
-/// Writes the blocks of the first one's size that come first of a part, where they stand in the path's last
-/// table, and else the part under the entry over its first page. Answers the page up to which it wrote.
+/// Writes the blocks of the first one's size that come first of an extent, where they stand in the path's last
+/// table, and else what lies under the entry over its first page. Answers the page up to which it wrote.
 #[cycle(fill)]
-fn fill_first<F: Format, H: Holder<F>>(holder: &mut H, level: u32, part: Part, sizes: u64) -> u64
-    requires may { MayFill F.layout (H.view holder.old) part level }
-    requires fixed { F.layout.grows ≡ false }
-    requires sizes { HasAllSizes F.layout sizes }
-    requires room { (lacking : List Position) × HasRoom (H.view holder.old) (needs_below F.layout F.layout.levels part level) lacking }
+fn fill_first<F: Format, H: Holder<F>>(holder: &mut H, level: u32, extent: Extent) -> u64
+    requires { MayFill F.layout (H.view holder.old) extent level }
     ensures stays { Stays H.space H.aside H.alone holder.old holder.new }
-    ensures linked { H.alone holder.old → H.linked holder.new + length (H.view holder.new).purse ≡ H.linked holder.old + length (H.view holder.old).purse }
-    ensures to { IsFirstTo F.layout level part result }
-    ensures filled { Filled F.layout H.tells (H.view holder.old) (H.view holder.new) (tiles F.layout (record part { end = result })) (needs F.layout F.layout.levels (record part { end = result })) }
-    ensures spends { (lacking : List Position) → HasRoom (H.view holder.old) (needs_below F.layout F.layout.levels (record part { end = result }) level) lacking → (still : List Position) × Spends (H.view holder.old) (H.view holder.new) lacking still }
-    ensures knows { (p : Position) → IsAmong (needs_below F.layout F.layout.levels (record part { end = result }) level) p → IsAmong (H.view holder.new).known p }
-    ensures counts { CountsTables F.layout (H.alone holder.old) (H.view holder.old) (H.view holder.new) part.first level (H.linked holder.old) (H.linked holder.new) }
+    ensures to { IsFirstTo F.layout level extent result }
+    ensures fills { Fills F.layout H.tells (H.view holder.old) (H.view holder.new) (up_to extent result) level }
 {
-    let log2 = part.step::<F>(sizes);
+    let log2 = extent.first_size::<F>();
     if log2 >= F::INDEX * level {
-        let block = Block {
-            first: part.first,
-            log2,
-            out: part.out,
-            prot: part.prot,
-        };
-        let count = part.run::<F>(log2, sizes);
-        let run = F::word_run(level, log2, part.out, part.prot, count);
-        write_run::<F, H>(holder, level, block, run);
-        part.first + (run.blocks << log2)
+        let count = extent.run::<F>(log2);
+        let run = F::word_run(level, log2, extent.out, extent.prot, count);
+        write_run::<F, H>(holder, level, extent.block(log2), run);
+        extent.first + (run.blocks << log2)
     } else {
-        let inner = part.under_entry::<F>(level);
-        fill_entry::<F, H>(holder, level, inner, sizes);
+        let inner = under_entry::<F>(level, extent);
+        fill_entry::<F, H>(holder, level, inner);
         inner.end
     }
 }
 
-/// Writes a part under one entry of the path's last table, whose blocks are those of tables below.
+/// Writes an extent under one entry of the path's last table, whose blocks are those of tables below.
 #[cycle(fill)]
-fn fill_entry<F: Format, H: Holder<F>>(holder: &mut H, level: u32, part: Part, sizes: u64)
-    requires may { MayFill F.layout (H.view holder.old) part level }
-    requires entry { IsEntryPart F.layout (H.view holder.old) part level }
-    requires fixed { F.layout.grows ≡ false }
-    requires sizes { HasAllSizes F.layout sizes }
-    requires room { (lacking : List Position) × HasRoom (H.view holder.old) (needs_below F.layout F.layout.levels part level) lacking }
+fn fill_entry<F: Format, H: Holder<F>>(holder: &mut H, level: u32, extent: Extent)
+    requires may { MayFill F.layout (H.view holder.old) extent level }
+    requires entry { IsEntryExtent F.layout extent level }
     ensures stays { Stays H.space H.aside H.alone holder.old holder.new }
-    ensures linked { H.alone holder.old → H.linked holder.new + length (H.view holder.new).purse ≡ H.linked holder.old + length (H.view holder.old).purse }
-    ensures filled { Filled F.layout H.tells (H.view holder.old) (H.view holder.new) (tiles F.layout part) (needs F.layout F.layout.levels part) }
-    ensures spends { (lacking : List Position) → HasRoom (H.view holder.old) (needs_below F.layout F.layout.levels part level) lacking → (still : List Position) × Spends (H.view holder.old) (H.view holder.new) lacking still }
-    ensures knows { (p : Position) → IsAmong (needs_below F.layout F.layout.levels part level) p → IsAmong (H.view holder.new).known p }
-    ensures counts { CountsTables F.layout (H.alone holder.old) (H.view holder.old) (H.view holder.new) part.first level (H.linked holder.old) (H.linked holder.new) }
+    ensures fills { Fills F.layout H.tells (H.view holder.old) (H.view holder.new) extent level }
 {
-    go_into::<F, H>(holder, level, part.first);
-    fill::<F, H>(holder, level - 1, part, sizes);
+    go_into::<F, H>(holder, level, extent.first);
+    fill::<F, H>(holder, level - 1, extent);
     holder.leave();
 }
 
@@ -100,11 +71,8 @@ fn go_into<F: Format, H: Holder<F>>(holder: &mut H, level: u32, page: u64)
     requires may { MayGoInto F.layout (H.view holder.old) page level }
     requires room { (lacking : List Position) × HasRoom (H.view holder.old) (next_table F.layout page level ∷ []) lacking }
     ensures stays { Stays H.space H.aside H.alone holder.old holder.new }
-    ensures linked { H.alone holder.old → H.linked holder.new + length (H.view holder.new).purse ≡ H.linked holder.old + length (H.view holder.old).purse }
     ensures deeper { IsDeeper F.layout H.tells (H.view holder.old) (H.view holder.new) page level }
-    ensures spends { (lacking : List Position) → HasRoom (H.view holder.old) (next_table F.layout page level ∷ []) lacking → (still : List Position) × Spends (H.view holder.old) (H.view holder.new) lacking still }
-    ensures counts { H.alone holder.old → IsSorted (H.view holder.old).tables → is_spine (H.view holder.old).levels (next_table F.layout page level) ≡ false → LinksTables (H.view holder.old) (H.view holder.new) (H.linked holder.old) (H.linked holder.new) }
-    ensures owned { H.alone holder.old → IsAmong (H.view holder.new).tables (next_table F.layout page level) ⊎ IsTrue (is_spine (H.view holder.old).levels (next_table F.layout page level)) }
+    ensures spends { SpendsOn (H.view holder.old) (H.view holder.new) (next_table F.layout page level ∷ []) }
 {
     let number = entry_number::<F>(level, page);
     match holder.enter(number) {
@@ -117,14 +85,13 @@ fn go_into<F: Format, H: Holder<F>>(holder: &mut H, level: u32, page: u64)
 /// linked there.
 fn link<F: Format, H: Holder<F>>(holder: &mut H, level: u32, number: u32, page: u64)
     requires may { MayGoInto F.layout (H.view holder.old) page level }
-    requires number { number ≡ walks.entry_number F.layout level page }
+    requires number { number ≡ pieces.entry_number F.layout level page }
     requires some { 0 < length (H.view holder.old).purse }
     ensures stays { Stays H.space H.aside H.alone holder.old holder.new }
-    ensures linked { H.alone holder.old → H.linked holder.new + length (H.view holder.new).purse ≡ H.linked holder.old + length (H.view holder.old).purse }
     ensures deeper { IsDeeper F.layout H.tells (H.view holder.old) (H.view holder.new) page level }
-    ensures spends { (lacking : List Position) → IsAmong lacking (next_table F.layout page level) → (still : List Position) × Spends (H.view holder.old) (H.view holder.new) lacking still }
-    ensures counts { H.alone holder.old → (¬ IsAmong (H.view holder.old).tables (next_table F.layout page level)) → is_spine (H.view holder.old).levels (next_table F.layout page level) ≡ false → LinksTables (H.view holder.old) (H.view holder.new) (H.linked holder.old) (H.linked holder.new) }
-    ensures owned { IsAmong (H.view holder.new).tables (next_table F.layout page level) ⊎ IsTrue (is_spine (H.view holder.old).levels (next_table F.layout page level)) }
+    ensures spends { (lacking : List Position)
+        → IsAmong lacking (next_table F.layout page level)
+        → (still : List Position) × Spends (H.view holder.old) (H.view holder.new) lacking still }
 {
     holder.place(level - 1, align_down(page, entry_bits::<F>(level)));
     match holder.install(number) {
@@ -135,14 +102,10 @@ fn link<F: Format, H: Holder<F>>(holder: &mut H, level: u32, number: u32, page: 
 
 /// Stores the word of a block of one entry in the path's last table, of this level.
 pub(crate) fn write_entry<F: Format, H: Holder<F>>(holder: &mut H, level: u32, block: Block)
-    requires may { MayFill F.layout (H.view holder.old) (part_of 1 block) level }
-    requires run { tiles F.layout (part_of 1 block) ≡ blocks_of 1 block }
-    requires here { level_of_size F.layout block.log2 ≡ level }
+    requires may { MayStoreRun F.layout (H.view holder.old) 1 block level }
     requires one { block.log2 ≡ F.layout.index * level }
     ensures stays { Stays H.space H.aside H.alone holder.old holder.new }
-    ensures linked { H.alone holder.old → H.linked holder.new ≡ H.linked holder.old }
-    ensures purse { (H.view holder.new).purse ≡ (H.view holder.old).purse }
-    ensures filled { Filled F.layout H.tells (H.view holder.old) (H.view holder.new) (blocks_of 1 block) (needs F.layout F.layout.levels (part_of 1 block)) }
+    ensures stored { StoresRun F.layout H.tells (H.view holder.old) (H.view holder.new) 1 block }
 {
     let word = F::leaf_word(level, block.log2, block.out, block.prot, 0);
     holder.write(entry_number::<F>(level, block.first), word);
@@ -157,14 +120,10 @@ pub(crate) fn write_run<F: Format, H: Holder<F>>(
     block: Block,
     run: WordRun,
 )
-    requires may { MayFill F.layout (H.view holder.old) (part_of run.blocks block) level }
-    requires tiled { tiles F.layout (part_of run.blocks block) ≡ blocks_of run.blocks block }
-    requires here { level_of_size F.layout block.log2 ≡ level }
+    requires may { MayStoreRun F.layout (H.view holder.old) run.blocks block level }
     requires words { GoBy F.layout level block.log2 block.out block.prot run.blocks run.step }
     ensures stays { Stays H.space H.aside H.alone holder.old holder.new }
-    ensures linked { H.alone holder.old → H.linked holder.new ≡ H.linked holder.old }
-    ensures purse { (H.view holder.new).purse ≡ (H.view holder.old).purse }
-    ensures filled { Filled F.layout H.tells (H.view holder.old) (H.view holder.new) (blocks_of run.blocks block) (needs F.layout F.layout.levels (part_of run.blocks block)) }
+    ensures stored { StoresRun F.layout H.tells (H.view holder.old) (H.view holder.new) run.blocks block }
 {
     // each block has 2^bits entries
     let bits = block.log2 - F::INDEX * level;

@@ -5,8 +5,8 @@
 //! that of the book machine, whatever other holders do between its steps. It takes no memory.
 #![tactic(auto)]
 
+mod entry;
 mod fill;
-mod part;
 mod refused;
 mod request;
 mod survey;

@@ -7,7 +7,7 @@ use Rattle.pt_model.specs.declared.position.Position.{Position}
 use Rattle.pt_model.specs.Tables.{add_position, add_positions}
 use Rattle.pt_model.specs.Sets.{IsAmong, IsSorted}
 use Rattle.pt_tile.specs.Counting.{at_level}
-use Rattle.pt_model.proofs.Positions.{before_order, add_after, add_before, add_there, add_again, sorted_add, among_kept, among_added, among_here, among_later}
+use Rattle.pt_model.proofs.Positions.{before_order, add_after, add_before, add_there, add_again, sorted_add, added_cases, added_kept, among_more, among_first}
 
 pub at_more : (l : ℕ) (q : Position) (qs : List Position) → q.level ≡ l → at_level l (q ∷ qs) ≡ at_level l qs + 1
 at_more l q qs e = let t : (q.level == l) ≡ true = eq-eqb q.level l e in rw t (omega arith)
@@ -27,9 +27,9 @@ pub at_new : (l : ℕ) (ps : List Position) (q : Position) → q.level ≡ l →
 at_new l [] q e new = at_more l q [] e
 at_new l (r ∷ rs) q e new =
     elim (before_order r q) [
-      | inl before ↦ ap (at_level l) (add_after r rs q before) ∙ at_head l r (add_position rs q) rs 1 (at_new l rs q e (λ m. new (among_later r rs q m)))
+      | inl before ↦ ap (at_level l) (add_after r rs q before) ∙ at_head l r (add_position rs q) rs 1 (at_new l rs q e (λ m. new (among_more q r rs m)))
       | inr other ↦ elim other [
-        | inl same ↦ absurd (new (among_here r rs q same))
+        | inl same ↦ absurd (new (among_first q r rs (sym same)))
         | inr after ↦ ap (at_level l) (add_before r rs q after) ∙ at_more l q (r ∷ rs) e
       ]
     ]
@@ -70,9 +70,9 @@ levels_new l h level_is (suc m) low ps from to new =
           ∙ at_new l ps (h low) (level_is low ∙ here) (λ o. new (subst (λ (k : ℕ). IsAmong ps (h k)) here o))
       | inr other ↦
           levels_new l h level_is m (low + 1) (add_position ps (h low)) (omega arith) (omega arith)
-          (λ o. elim (among_added ps (h low) (h l) o) [
+          (λ o. elim (added_cases ps (h low) (h l) o) [
             | inl old ↦ new old
-            | inr e ↦ other (sym (level_is low) ∙ ap (λ (p : Position). p.level) e ∙ level_is l)
+            | inr e ↦ other (sym (level_is low) ∙ ap (λ (p : Position). p.level) (sym e) ∙ level_is l)
           ])
           ∙ ap (λ (n : ℕ). n + 1) (at_other l ps (h low) (λ e. other (sym (level_is low) ∙ e)))
     ]
@@ -82,7 +82,7 @@ pub levels_again : (l : ℕ) (h : ℕ → Position) → ((k : ℕ) → (h k).lev
     at_level l (add_positions ps (map h (range_with_len low m))) ≡ at_level l ps
 levels_again l h level_is zero low ps s there = refl
 levels_again l h level_is (suc m) low ps s there =
-    levels_again l h level_is m (low + 1) (add_position ps (h low)) (sorted_add ps (h low) s) (among_kept ps (h low) (h l) there)
+    levels_again l h level_is m (low + 1) (add_position ps (h low)) (sorted_add ps (h low) s) (added_kept ps (h low) (h l) there)
     ∙ elim (cases_eq low l) [
       | inl here ↦ ap (at_level l) (add_again ps (h low) s (subst (λ (k : ℕ). IsAmong ps (h k)) (sym here) there))
       | inr other ↦ at_other l ps (h low) (λ e. other (sym (level_is low) ∙ e))

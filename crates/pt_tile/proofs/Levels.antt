@@ -11,7 +11,7 @@ use Rattle.pt_model.specs.Tiling.{IsGreatestSize, block_at}
 use Rattle.pt_model.specs.Sets.{IsAmong, IsSorted}
 use Rattle.pt_tile.specs.Counting.{at_level}
 use Rattle.pt_tile.specs.Sizes.{IsLarger}
-use Rattle.pt_model.proofs.Positions.{among_adds, sorted_adds, level_of_member, level_member}
+use Rattle.pt_model.proofs.Positions.{sorted_adds, adds_are, among_levels, levels_among}
 use Rattle.pt_tile.proofs.Counts.{levels_other, levels_new, levels_again, adds_append}
 use Rattle.pt_tile.proofs.Begun.{begun_at, begun_in, begun_part, part_in, coarse_is_fine, aligned_sum, same_table}
 use Rattle.pt_tile.proofs.Uncovered.{uncovered, step_below, step_above}
@@ -36,12 +36,12 @@ spine_of n top = map spine_position (levels_between (n - 1) top)
 pub in_levels : (h : ℕ → Position) → ((k : ℕ) → (h k).level ≡ k) → (low top : ℕ) (p : Position) →
     IsAmong (map h (levels_between low top)) p → (low ≤ p.level) × (p.level ≤ top) × (h p.level ≡ p)
 in_levels h level_is low top p m =
-    let a = level_of_member h (top + 1 - low) low p m in
-    let same : p.level ≡ a.0 = ap (λ (q : Position). q.level) (sym a.3) ∙ level_is a.0 in
-    (omega (arith, same, a.1), omega (arith, same, a.1, a.2), ap h same ∙ a.3)
+    let a = among_levels h (top + 1 - low) low p m in
+    let same : p.level ≡ a.0 = ap (λ (q : Position). q.level) a.3 ∙ level_is a.0 in
+    (omega (arith, same, a.1), omega (arith, same, a.1, a.2), ap h same ∙ sym a.3)
 
 pub levels_in : (h : ℕ → Position) (low top k : ℕ) → low ≤ k → k ≤ top → IsAmong (map h (levels_between low top)) (h k)
-levels_in h low top k from to = level_member h (top + 1 - low) low k from (omega arith)
+levels_in h low top k from to = levels_among h (top + 1 - low) low k from (omega arith)
 
 -- the members after a block
 abbrev pub after : Layout → ℕ → ℕ → ℕ → ℕ → List Position → List Position
@@ -50,8 +50,8 @@ after g n s k top ps = add_positions (add_positions ps (over_of g n s k top)) (s
 pub after_cases : (g : Layout) (n s k top : ℕ) (ps : List Position) (p : Position) → IsAmong (after g n s k top ps) p →
     IsAmong ps p ⊎ (((level_of_size g k ≤ p.level) × (p.level ≤ top) × (position_over g s p.level ≡ p)) ⊎ ((n - 1 ≤ p.level) × (p.level ≤ top) × (spine_position p.level ≡ p)))
 after_cases g n s k top ps p m =
-    elim ((among_adds (spine_of n top) (add_positions ps (over_of g n s k top)) p).0 m) [
-      | inl first ↦ elim ((among_adds (over_of g n s k top) ps p).0 first) [
+    elim ((adds_are (spine_of n top) (add_positions ps (over_of g n s k top)) p).0 m) [
+      | inl first ↦ elim ((adds_are (over_of g n s k top) ps p).0 first) [
         | inl old ↦ inl old
         | inr over ↦ inr (inl (in_levels (position_over g s) (λ i. refl) (level_of_size g k) top p over))
       ]
@@ -60,16 +60,16 @@ after_cases g n s k top ps p m =
 
 after_old : (g : Layout) (n s k top : ℕ) (ps : List Position) (p : Position) → IsAmong ps p → IsAmong (after g n s k top ps) p
 after_old g n s k top ps p m =
-    (among_adds (spine_of n top) (add_positions ps (over_of g n s k top)) p).1 (inl ((among_adds (over_of g n s k top) ps p).1 (inl m)))
+    (adds_are (spine_of n top) (add_positions ps (over_of g n s k top)) p).1 (inl ((adds_are (over_of g n s k top) ps p).1 (inl m)))
 
 after_over : (g : Layout) (n s k top l : ℕ) (ps : List Position) → level_of_size g k ≤ l → l ≤ top → IsAmong (after g n s k top ps) (position_over g s l)
 after_over g n s k top l ps from to =
-    (among_adds (spine_of n top) (add_positions ps (over_of g n s k top)) (position_over g s l)).1
-    (inl ((among_adds (over_of g n s k top) ps (position_over g s l)).1 (inr (levels_in (position_over g s) (level_of_size g k) top l from to))))
+    (adds_are (spine_of n top) (add_positions ps (over_of g n s k top)) (position_over g s l)).1
+    (inl ((adds_are (over_of g n s k top) ps (position_over g s l)).1 (inr (levels_in (position_over g s) (level_of_size g k) top l from to))))
 
 after_spine : (g : Layout) (n s k top l : ℕ) (ps : List Position) → n - 1 ≤ l → l ≤ top → IsAmong (after g n s k top ps) (spine_position l)
 after_spine g n s k top l ps from to =
-    (among_adds (spine_of n top) (add_positions ps (over_of g n s k top)) (spine_position l)).1 (inr (levels_in spine_position (n - 1) top l from to))
+    (adds_are (spine_of n top) (add_positions ps (over_of g n s k top)) (spine_position l)).1 (inr (levels_in spine_position (n - 1) top l from to))
 
 -- what the lists of a block add to a level
 
@@ -221,7 +221,7 @@ step_low g n l s out end left k larger ps b up reach =
     elim (cases_lt l (n - 1)) [
       | inl below ↦ spine_none n (least_top g n (s + 2 ^ k)) l _ low (inl below)
       | inr from ↦ spine_again n (least_top g n (s + 2 ^ k)) l _ sorted
-          ((among_adds (over_of g n s k (least_top g n (s + 2 ^ k))) ps (spine_position l)).1 (inl (up.spine from reach)))
+          ((adds_are (over_of g n s k (least_top g n (s + 2 ^ k))) ps (spine_position l)).1 (inl (up.spine from reach)))
     ] in
     elim (cases_lt k (size g l)) [
       | inr large ↦
@@ -263,7 +263,7 @@ step_high g n l s out end left k larger ps b up some above =
           (λ m. omega (arith, up.below_top (position_over g s l) refl m)) in
           let there : IsAmong (add_positions ps (over_of g n s k (least_top g n (s + 2 ^ k)))) (spine_position l) =
           subst (λ p. IsAmong (add_positions ps (over_of g n s k (least_top g n (s + 2 ^ k)))) p) (over_first g s l place)
-          ((among_adds (over_of g n s k (least_top g n (s + 2 ^ k))) ps (position_over g s l)).1
+          ((adds_are (over_of g n s k (least_top g n (s + 2 ^ k))) ps (position_over g s l)).1
           (inr (levels_in (position_over g s) (level_of_size g k) (least_top g n (s + 2 ^ k)) l (size_low g.index k l b.index_some small) reach))) in
           let spine = spine_again n (least_top g n (s + 2 ^ k)) l _ sorted there in
           omega (arith, new, spine, same)

@@ -7,3 +7,7 @@ pub mod Tops
 pub mod Levels
 pub mod Needed
 pub mod RunFacts
+pub mod FirstSizes
+pub mod UnderEntries
+pub mod RunTilings
+pub mod FirstParts

@@ -14,7 +14,7 @@ use Rattle.pt_model.proofs.TilingFacts.{tiling_is}
 use Rattle.pt_model.specs.Sets.{IsAmong, IsSorted}
 use Rattle.pt_tile.specs.Counting.{at_level, levels_below, begun, tables_over}
 use Rattle.pt_tile.specs.Sizes.{IsLarger}
-use Rattle.pt_model.proofs.Positions.{among_adds, among_here, among_later, among_none, sorted_adds}
+use Rattle.pt_model.proofs.Positions.{among_none, sorted_adds, adds_are, among_here, among_more}
 use Rattle.pt_tile.proofs.Begun.{begun_at, begun_part, coarse_is_fine}
 use Rattle.pt_tile.proofs.Uncovered.{uncovered, uncovered_end, larger_moves, over_is}
 use Rattle.pt_format.specs.Laws.{IsLayout}
@@ -73,7 +73,7 @@ rest_counts g n l end prot larger r reach (b ∷ bs) s out left ps ends ho some 
 -- a table that begins after page 0 is not of the spine
 first_not_spine : (g : Layout) (n s k top l : ℕ) → 2 ^ size g l ≤ s → IsAmong (add_positions [] (over_of g n s k top)) (spine_position l) → ⊥
 first_not_spine g n s k top l far m =
-    elim ((among_adds (over_of g n s k top) [] (spine_position l)).0 m) [
+    elim ((adds_are (over_of g n s k top) [] (spine_position l)).0 m) [
       | inl none ↦ among_none (spine_position l) none
       | inr over ↦
           let h = in_levels (position_over g s) (λ i. refl) (level_of_size g k) top (spine_position l) over in
@@ -127,7 +127,7 @@ first_adds g n l s out end left k d extra larger b reach e x =
                   | inr from ↦
                       spine_again n (least_top g n (s + 2 ^ k)) l (add_positions [] (over_of g n s k (least_top g n (s + 2 ^ k)))) sorted
                       (subst (λ p. IsAmong (add_positions [] (over_of g n s k (least_top g n (s + 2 ^ k)))) p) (over_first g s l place)
-                      ((among_adds (over_of g n s k (least_top g n (s + 2 ^ k))) [] (position_over g s l)).1
+                      ((adds_are (over_of g n s k (least_top g n (s + 2 ^ k))) [] (position_over g s l)).1
                       (inr (levels_in (position_over g s) (level_of_size g k) (least_top g n (s + 2 ^ k)) l (size_low g.index k l b.index_some small) here))))
                       ∙ omega (arith, nope.1)
                 ]
@@ -213,7 +213,7 @@ needed_below g n first out count prot zero_size low hi ho p m =
 
 pub none_at : (l : ℕ) (ps : List Position) → ((p : Position) → IsAmong ps p → p.level ≢ l) → at_level l ps ≡ 0
 none_at l [] h = refl
-none_at l (q ∷ qs) h = at_same l q qs (h q (among_here q qs q refl)) ∙ none_at l qs (λ p m. h p (among_later q qs p m))
+none_at l (q ∷ qs) h = at_same l q qs (h q (among_here q qs)) ∙ none_at l qs (λ p m. h p (among_more p q qs m))
 
 below_none : (m : ℕ) → levels_below m [] ≡ 0
 below_none zero = refl
@@ -232,7 +232,7 @@ below_in (suc m) q qs h = elim (cases_eq q.level m) [
 
 pub by_levels : (m : ℕ) (ps : List Position) → ((p : Position) → IsAmong ps p → p.level < m) → levels_below m ps ≡ length ps
 by_levels m [] h = below_none m
-by_levels m (q ∷ qs) h = below_in m q qs (h q (among_here q qs q refl)) ∙ omega (arith, by_levels m qs (λ p o. h p (among_later q qs p o)))
+by_levels m (q ∷ qs) h = below_in m q qs (h q (among_here q qs)) ∙ omega (arith, by_levels m qs (λ p o. h p (among_more p q qs o)))
 
 pub below_more : (l : ℕ) (ps : List Position) → levels_below (l + 1) ps ≡ levels_below l ps + at_level l ps
 below_more l ps = let e : l + 1 ≡ suc l = omega arith in ap (λ (m : ℕ). levels_below m ps) e

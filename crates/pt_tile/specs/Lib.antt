@@ -1,3 +1,4 @@
 pub mod Sizes
 pub mod Counting
 pub mod Runs
+pub mod Extents

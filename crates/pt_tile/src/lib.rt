@@ -6,11 +6,13 @@
 //! here takes memory.
 #![tactic(auto)]
 
+mod extent;
 mod runs;
 mod sizes;
 mod tables;
 mod tiles;
 
+pub use extent::Extent;
 pub use runs::run_length;
 pub use sizes::all_sizes;
 pub use tables::tables_needed;

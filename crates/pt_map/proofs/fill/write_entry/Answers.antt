@@ -1,12 +1,11 @@
 use Rattle.std.proofs.Common.{◌≡◌, ℕ, ◌+◌, ◌-◌, ◌*◌, ◌/◌, ◌%◌, ◌^◌, ◌<◌, [], refl, ap, sym, ◌∙◌, subst, arith}
-use Rattle.pt_format.specs.Words.{MayBeLeaf}
 use Rattle.pt_view.specs.declared.view.View.{View}
 use Rattle.pt_view.specs.Calls.{IsWritten, MayWrite}
-use Rattle.pt_map.proofs.Entries.{entries_some, leaf_in, may_store, put_entry, run_filled}
+use Rattle.pt_map.proofs.Entries.{entries_some, first_leaf, may_write_entry, put_entry, run_filled}
 use Rattle.pt_map.proofs.Writes.{put_none}
 use Rattle.pt_map.proofs.fill.write_entry.Given.{Over}
-use Rattle.pt_map.proofs.fill.write_entry.Goals as goal
 use Rattle.pt_map.proofs.fill.write_entry.Goals.{After-entry_number}
+use Rattle.pt_map.proofs.fill.write_entry.Goals as goal
 
 no_bits : (a b : ℕ) → a ≡ b → a - b ≡ 0
 no_bits a b e = omega (arith, e)
@@ -38,16 +37,7 @@ module _ (g : Over) (c : After-entry_number g) where
   word_is = c.leaf_word-word.ensures ∙ sym (λ i. g.F.Format.layout.leaf c.args.level c.args.block.log2 (out_is i) c.args.block.prot (part_is i))
 
 pub leaf_word-word-requires : goal.leaf_word-word-requires
-leaf_word-word-requires g c =
-    let f = g.F.Format.layout in
-    let v : View = g.H.Holder.view c.args.holder.now in
-    let good = g.met.F.Format.lawful_layout in
-    let bits : ℕ = c.args.block.log2 - f.index * c.args.level in
-    let m = one_word bits (no_bits _ _ c.requires.one) in
-    let some = entries_some f good g.H.Holder.tells v c.args.block 1 c.args.level c.requires.may c.requires.run c.requires.here in
-    subst (λ (o : ℕ). MayBeLeaf f c.args.level c.args.block.log2 o c.args.block.prot 0) (first_out c.args.block.out (2 ^ c.args.block.log2) (2 ^ bits) m)
-    (subst (λ (i : ℕ). MayBeLeaf f c.args.level c.args.block.log2 (c.args.block.out + 0 / 2 ^ bits * 2 ^ c.args.block.log2) c.args.block.prot i) (first_part (2 ^ bits) m)
-    (leaf_in f good g.H.Holder.tells v c.args.block 1 c.args.level c.requires.may c.requires.run c.requires.here 0 some))
+leaf_word-word-requires g c = first_leaf g.met.F.Format.lawful_layout c.requires.may
 
 at_number : (n : ℕ) → n + 0 ≡ n
 at_number n = omega arith
@@ -57,21 +47,22 @@ write-requires g c =
     let f = g.F.Format.layout in
     let v : View = g.H.Holder.view c.args.holder.now in
     let good = g.met.F.Format.lawful_layout in
-    let some = entries_some f good g.H.Holder.tells v c.args.block 1 c.args.level c.requires.may c.requires.run c.requires.here in
+    let some = entries_some good c.requires.may in
     subst (λ (n : ℕ). MayWrite f v n c.leaf_word-word.result) (at_number c.entry_number.result)
-    (may_store f good g.H.Holder.tells v c.args.block 1 c.args.level c.requires.may c.requires.run c.requires.here 0 some
-    v [] (put_none f g.H.Holder.tells v) (λ p h. absurd (omega (arith, h))) c.entry_number.result c.leaf_word-word.result c.entry_number.ensures.number (word_is g c))
+    (may_write_entry good c.requires.may 0 some (put_none f g.H.Holder.tells v) (λ p h. absurd (omega (arith, h))) c.entry_number.result c.leaf_word-word.result c.entry_number.ensures.number (word_is g c))
 
-pub returns-clause-filled : goal.returns-clause-filled
-returns-clause-filled g c =
+pub returns-clause-stored : goal.returns-clause-stored
+returns-clause-stored g c =
     let f = g.F.Format.layout in
     let v : View = g.H.Holder.view c.args.holder.now in
     let w : View = g.H.Holder.view c.write.new.self in
     let good = g.met.F.Format.lawful_layout in
-    let b = (goal.at.returns-clause-filled g c).After-entry_number in
-    let some = entries_some f good g.H.Holder.tells v c.args.block 1 c.args.level c.requires.may c.requires.run c.requires.here in
+    let b = (goal.at.returns-clause-stored g c).After-entry_number in
     let m = one g b in
-    run_filled f good g.H.Holder.tells v c.args.block 1 c.args.level c.requires.may c.requires.run c.requires.here w 1 (omega (arith, m))
-    (put_entry f good g.H.Holder.tells v c.args.block 1 c.args.level c.requires.may c.requires.run c.requires.here 0 some
-    v [] (put_none f g.H.Holder.tells v) (λ p h. absurd (omega (arith, h))) c.entry_number.result c.leaf_word-word.result c.entry_number.ensures.number (word_is g b)
-    w (subst (λ (n : ℕ). IsWritten f g.H.Holder.tells n c.leaf_word-word.result v w) (sym (at_number c.entry_number.result)) c.write.ensures.written))
+    record {
+      purse = c.write.ensures.written.purse.purse;
+      filled = run_filled good c.requires.may 1 (omega (arith, m))
+          (put_entry good c.requires.may 0 (entries_some good c.requires.may) (put_none f g.H.Holder.tells v) (λ p h. absurd (omega (arith, h)))
+          c.entry_number.result c.leaf_word-word.result c.entry_number.ensures.number (word_is g b)
+          w (subst (λ (n : ℕ). IsWritten f g.H.Holder.tells n c.leaf_word-word.result v w) (sym (at_number c.entry_number.result)) c.write.ensures.written));
+    }

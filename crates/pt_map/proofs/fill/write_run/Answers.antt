@@ -4,8 +4,8 @@ use Rattle.pt_view.specs.declared.view.View.{View}
 use Rattle.pt_view.specs.Calls.{IsWrittenRun, MayWriteRun}
 use Rattle.pt_map.proofs.Entries.{entries_few, first_leaf, may_run_words, put_run, run_filled}
 use Rattle.pt_map.proofs.fill.write_run.Given.{Over}
-use Rattle.pt_map.proofs.fill.write_run.Goals as goal
 use Rattle.pt_map.proofs.fill.write_run.Goals.{After-INDEX}
+use Rattle.pt_map.proofs.fill.write_run.Goals as goal
 
 -- the log2 of the entries of a block, as the code makes it
 bits_are : (g : Over) (c : After-INDEX g) → c.args.block.log2 - c.INDEX.result * c.args.level ≡ c.args.block.log2 - g.F.Format.layout.index * c.args.level
@@ -19,7 +19,7 @@ all_are : (g : Over) (c : After-INDEX g) →
     c.args.run.blocks * 2 ^ (c.args.block.log2 - c.INDEX.result * c.args.level) % 2 ^ 64 ≡ c.args.run.blocks * 2 ^ (c.args.block.log2 - g.F.Format.layout.index * c.args.level)
 all_are g c =
     let f = g.F.Format.layout in
-    let few = entries_few f g.met.F.Format.lawful_layout g.H.Holder.tells (g.H.Holder.view c.args.holder.now) c.args.block c.args.run.blocks c.args.level c.requires.may c.requires.tiled c.requires.here in
+    let few = entries_few g.met.F.Format.lawful_layout c.requires.may in
     let index = index_few g in
     ap (λ (k : ℕ). c.args.run.blocks * 2 ^ k % 2 ^ 64) (bits_are g c)
     ∙ (let e : c.args.run.blocks * 2 ^ (c.args.block.log2 - f.index * c.args.level) % 2 ^ 64 ≡ c.args.run.blocks * 2 ^ (c.args.block.log2 - f.index * c.args.level) = omega arith in e)
@@ -27,12 +27,12 @@ all_are g c =
 pub overflow_cast-run : goal.overflow_cast-run
 overflow_cast-run g c =
     let f = g.F.Format.layout in
-    let few = entries_few f g.met.F.Format.lawful_layout g.H.Holder.tells (g.H.Holder.view c.args.holder.now) c.args.block c.args.run.blocks c.args.level c.requires.may c.requires.tiled c.requires.here in
+    let few = entries_few g.met.F.Format.lawful_layout c.requires.may in
     omega (arith, few, index_few g, all_are g (goal.at.overflow_cast-run g c).After-INDEX)
 
 pub leaf_word-word-requires : goal.leaf_word-word-requires
 leaf_word-word-requires g c =
-    first_leaf g.F.Format.layout g.met.F.Format.lawful_layout g.H.Holder.tells (g.H.Holder.view c.args.holder.now) c.args.block c.args.run.blocks c.args.level c.requires.may c.requires.tiled c.requires.here
+    first_leaf g.met.F.Format.lawful_layout c.requires.may
 
 pub write_run-requires : goal.write_run-requires
 write_run-requires g c =
@@ -40,18 +40,20 @@ write_run-requires g c =
     let v : View = g.H.Holder.view c.args.holder.now in
     let b = (goal.at.write_run-requires g c).After-INDEX in
     subst (λ (n : ℕ). MayWriteRun f v c.entry_number.result n c.leaf_word-word.result c.args.run.step) (sym (all_are g b))
-    (may_run_words f g.met.F.Format.lawful_layout g.H.Holder.tells v c.args.block c.args.run.blocks c.args.level c.requires.may c.requires.tiled c.requires.here
+    (may_run_words g.met.F.Format.lawful_layout c.requires.may
     c.entry_number.result c.leaf_word-word.result c.args.run.step c.entry_number.ensures.number c.leaf_word-word.ensures c.requires.words)
 
-pub returns-clause-filled : goal.returns-clause-filled
-returns-clause-filled g c =
+pub returns-clause-stored : goal.returns-clause-stored
+returns-clause-stored g c =
     let f = g.F.Format.layout in
     let good = g.met.F.Format.lawful_layout in
     let v : View = g.H.Holder.view c.args.holder.now in
     let w : View = g.H.Holder.view c.write_run.new.self in
-    let all = all_are g (goal.at.returns-clause-filled g c).After-INDEX in
-    run_filled f good g.H.Holder.tells v c.args.block c.args.run.blocks c.args.level c.requires.may c.requires.tiled c.requires.here w
-    (c.args.run.blocks * 2 ^ (c.args.block.log2 - f.index * c.args.level)) (let e : c.args.run.blocks * 2 ^ (c.args.block.log2 - f.index * c.args.level) ≡ c.args.run.blocks * 2 ^ (c.args.block.log2 - f.index * c.args.level) = omega arith in e)
-    (put_run f good g.H.Holder.tells v c.args.block c.args.run.blocks c.args.level c.requires.may c.requires.tiled c.requires.here
-    c.entry_number.result c.leaf_word-word.result c.args.run.step c.entry_number.ensures.number c.leaf_word-word.ensures c.requires.words w
-    (subst (λ (n : ℕ). IsWrittenRun f g.H.Holder.tells c.entry_number.result n c.leaf_word-word.result c.args.run.step v w) all c.write_run.ensures.written))
+    let all = all_are g (goal.at.returns-clause-stored g c).After-INDEX in
+    let many : ℕ = c.args.run.blocks * 2 ^ (c.args.block.log2 - f.index * c.args.level) in
+    record {
+      purse = c.write_run.ensures.written.purse.purse;
+      filled = run_filled good c.requires.may many (let e : many ≡ many = omega arith in e)
+          (put_run good c.requires.may c.entry_number.result c.leaf_word-word.result c.args.run.step c.entry_number.ensures.number c.leaf_word-word.ensures c.requires.words
+          (subst (λ (n : ℕ). IsWrittenRun f g.H.Holder.tells c.entry_number.result n c.leaf_word-word.result c.args.run.step v w) all c.write_run.ensures.written));
+    }

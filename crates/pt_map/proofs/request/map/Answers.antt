@@ -6,8 +6,8 @@ use Rattle.pt_map.proofs.request.map.Goals as goal
 whole : (index k : ℕ) → 0 < index → k ≡ index → index * (k / index) ≡ k
 whole index k some e = ap (λ (n : ℕ). index * (n / index)) e ∙ ap (λ (n : ℕ). index * n) (div_self some) ∙ (let z : index * 1 ≡ index = omega arith in z) ∙ sym e
 
-pub map_part-requires-then-is_block-2-clause-whole : goal.map_part-requires-then-is_block-2-clause-whole
-map_part-requires-then-is_block-2-clause-whole g c = λ t.
+pub map_extent-requires-then-is_block-2-clause-whole : goal.map_extent-requires-then-is_block-2-clause-whole
+map_extent-requires-then-is_block-2-clause-whole g c = λ t.
     let f = g.F.Format.layout in
     let l = g.met.F.Format.lawful_layout in
     let is = g.met.F.Format.has_constants.index_is in
@@ -15,4 +15,4 @@ map_part-requires-then-is_block-2-clause-whole g c = λ t.
     let index : c.INDEX-then-is_block-2.result ≡ f.index = c.INDEX-then-is_block-2.ensures ∙ sym is in
     let same : c.INDEX.result ≡ c.INDEX-then-is_block-2.result = c.INDEX.ensures ∙ sym c.INDEX-then-is_block-2.ensures in
     let one = c.is_block-2.ensures c.if-is_block-2.true in
-    (whole f.index c.INDEX-then-is_block-2.result some index, one.1 ∙ ap (λ (k : ℕ). c.in_ok-part.part.first + 2 ^ k) same)
+    (whole f.index c.INDEX-then-is_block-2.result some index, one.1 ∙ ap (λ (k : ℕ). c.in_ok-extent.extent.first + 2 ^ k) same)

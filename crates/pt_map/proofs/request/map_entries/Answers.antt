@@ -1,60 +1,44 @@
-use Rattle.std.proofs.Common.{◌≡◌, ℕ, arith, sym, subst}
-use Rattle.pt_model.specs.Tiling.{block_at}
-use Rattle.pt_map.specs.Filled.{Filled, MayFill}
-use Rattle.pt_map.specs.Parts.{blocks_of, needs, part_of, tiles}
-use Rattle.pt_map.proofs.OneBlock.{block_counts, block_leaves, block_mapped, block_may, block_tiles}
-use Rattle.pt_map.proofs.request.map_entries.Given.{Over}
+use Rattle.std.proofs.Common.{◌≡◌, ℕ, ◌≤◌, arith, sym, ap, ◌∙◌, subst}
+use Rattle.pt_model.specs.declared.block.Block.{Block}
+use Rattle.pt_view.specs.declared.view.View.{View}
+use Rattle.pt_view.specs.Views.{linked_count}
+use Rattle.pt_map.specs.Filled.{MayStoreRun, StoresRun}
+use Rattle.pt_map.proofs.Belows.{occupied_below}
+use Rattle.pt_map.proofs.Maps.{linked_walked}
+use Rattle.pt_map.proofs.OneBlock.{block_leaves, block_mapped, block_may}
 use Rattle.pt_map.proofs.request.map_entries.Goals as goal
-use Rattle.pt_map.proofs.request.map_entries.Goals.{After-word_run-run, After-write_run}
 
 pub word_run-run-requires-clause-leaves : goal.word_run-run-requires-clause-leaves
 word_run-run-requires-clause-leaves g c =
     let first = c.first_below.ensures in
-    block_leaves g.F.Format.layout g.met.F.Format.lawful_layout g.H.Holder.tells (g.H.Holder.view c.args.holder.now) (g.H.Holder.view c.first_below.new.holder) c.args.part c.args.level c.requires.may
-    c.args.log2 c.requires.size c.requires.high c.requires.whole first.walked first.path (c.in_default.ensures.lowest c.requires.may.clear)
+    block_leaves g.met.F.Format.lawful_layout c.requires.may c.requires.block first.walked first.path (c.in_default.ensures.lowest c.requires.may.clear)
 
 -- the run is the one block
-module _ (g : Over) (c : After-word_run-run g) where
-  pub one : c.word_run-run.result.blocks ≡ 1
-  one = let some = c.word_run-run.ensures.some in let few = c.word_run-run.ensures.few in omega arith
+one_is : (n : ℕ) → 1 ≤ n → n ≤ 1 → 1 ≡ n
+one_is n some few = omega arith
 
 pub write_run-requires-clause-may : goal.write_run-requires-clause-may
 write_run-requires-clause-may g c =
     let first = c.first_below.ensures in
-    subst (λ (n : ℕ). MayFill g.F.Format.layout (g.H.Holder.view c.first_below.new.holder) (part_of n (block_at c.args.part.first c.args.log2 c.args.part.out c.args.part.prot)) c.args.level) (sym (one g (goal.at.write_run-requires-clause-may g c).After-word_run-run))
-    (block_may g.F.Format.layout g.met.F.Format.lawful_layout g.H.Holder.tells (g.H.Holder.view c.args.holder.now) (g.H.Holder.view c.first_below.new.holder) c.args.part c.args.level c.requires.may
-    c.args.log2 c.requires.size c.requires.high c.requires.whole first.walked first.path (c.in_default.ensures.lowest c.requires.may.clear))
+    let v : View = g.H.Holder.view c.first_below.new.holder in
+    let one = one_is c.word_run-run.result.blocks c.word_run-run.ensures.some c.word_run-run.ensures.few in
+    subst (λ (n : ℕ). MayStoreRun g.F.Format.layout v n c.block.result c.args.level) one
+    (subst (λ (b : Block). MayStoreRun g.F.Format.layout v 1 b c.args.level) (sym c.block.ensures)
+    (block_may g.met.F.Format.lawful_layout c.requires.may c.requires.block first.walked first.path (c.in_default.ensures.lowest c.requires.may.clear)))
 
-pub write_run-requires-clause-tiled : goal.write_run-requires-clause-tiled
-write_run-requires-clause-tiled g c =
+pub returns-in-Some-clause-ends : goal.returns-in-Some-clause-ends
+returns-in-Some-clause-ends g c =
     let first = c.first_below.ensures in
-    subst (λ (n : ℕ). tiles g.F.Format.layout (part_of n (block_at c.args.part.first c.args.log2 c.args.part.out c.args.part.prot)) ≡ blocks_of n (block_at c.args.part.first c.args.log2 c.args.part.out c.args.part.prot)) (sym (one g (goal.at.write_run-requires-clause-tiled g c).After-word_run-run))
-    (block_tiles g.F.Format.layout g.met.F.Format.lawful_layout g.H.Holder.tells (g.H.Holder.view c.args.holder.now) (g.H.Holder.view c.first_below.new.holder) c.args.part c.args.level c.requires.may
-    c.args.log2 c.requires.size c.requires.high c.requires.whole first.walked first.path (c.in_default.ensures.lowest c.requires.may.clear))
+    occupied_below first.walked first.path c.byte_of.ensures (c.in-Some.ensures.lowest c.requires.may.clear)
 
-module _ (g : Over) (c : After-write_run g) where
-  abbrev start : After-word_run-run g
-  start = (goal.at.After-write_run g c).After-word_run-run
-
-  pub filled : Filled g.F.Format.layout g.H.Holder.tells (g.H.Holder.view c.first_below.new.holder) (g.H.Holder.view c.write_run.new.holder) (blocks_of 1 (block_at c.args.part.first c.args.log2 c.args.part.out c.args.part.prot))
-      (needs g.F.Format.layout g.F.Format.layout.levels (part_of 1 (block_at c.args.part.first c.args.log2 c.args.part.out c.args.part.prot)))
-  filled = subst (λ (n : ℕ). Filled g.F.Format.layout g.H.Holder.tells (g.H.Holder.view c.first_below.new.holder) (g.H.Holder.view c.write_run.new.holder) (blocks_of n (block_at c.args.part.first c.args.log2 c.args.part.out c.args.part.prot))
-      (needs g.F.Format.layout g.F.Format.layout.levels (part_of n (block_at c.args.part.first c.args.log2 c.args.part.out c.args.part.prot)))) (one g start) c.write_run.ensures.filled
-
-pub returns-clause-mapped : goal.returns-clause-mapped
-returns-clause-mapped g c =
-    let d = (goal.at.returns-clause-mapped g c).After-write_run in
+pub returns-clause-ends : goal.returns-clause-ends
+returns-clause-ends g c =
     let first = c.first_below.ensures in
-    block_mapped g.F.Format.layout g.met.F.Format.lawful_layout g.H.Holder.tells (g.H.Holder.view c.args.holder.now) (g.H.Holder.view c.first_below.new.holder) c.args.part c.args.level c.requires.may
-    c.args.log2 c.requires.size c.requires.high c.requires.whole first.walked first.path (c.in_default.ensures.lowest c.requires.may.clear)
-    (g.H.Holder.alone c.args.holder.now) (g.H.Holder.alone c.first_below.new.holder) first.stays.still_alone (g.H.Holder.view c.write_run.new.holder)
-    (g.H.Holder.linked c.args.holder.now) (g.H.Holder.linked c.first_below.new.holder) first.linked c.purse-held.ensures.few c.write_run.ensures.purse (filled g d)
-
-pub returns-clause-counts : goal.returns-clause-counts
-returns-clause-counts g c =
-    let d = (goal.at.returns-clause-counts g c).After-write_run in
-    let first = c.first_below.ensures in
-    block_counts g.F.Format.layout g.met.F.Format.lawful_layout g.H.Holder.tells (g.H.Holder.view c.args.holder.now) (g.H.Holder.view c.first_below.new.holder) c.args.part c.args.level c.requires.may
-    c.args.log2 c.requires.size c.requires.high c.requires.whole first.walked first.path (c.in_default.ensures.lowest c.requires.may.clear)
-    (g.H.Holder.alone c.args.holder.now) (g.H.Holder.alone c.first_below.new.holder) first.stays.still_alone (g.H.Holder.view c.write_run.new.holder)
-    (g.H.Holder.linked c.args.holder.now) (g.H.Holder.linked c.first_below.new.holder) (g.H.Holder.linked c.write_run.new.holder) first.linked c.write_run.ensures.linked (filled g d)
+    let v : View = g.H.Holder.view c.first_below.new.holder in
+    let w : View = g.H.Holder.view c.write_run.new.holder in
+    let one = one_is c.word_run-run.result.blocks c.word_run-run.ensures.some c.word_run-run.ensures.few in
+    block_mapped g.met.F.Format.lawful_layout c.requires.may c.requires.block first.walked first.path (c.in_default.ensures.lowest c.requires.may.clear)
+    first.stays.still_alone
+    (linked_walked (g.H.Holder.view c.args.holder.now) (g.H.Holder.view c.first_below.new.holder) (g.H.Holder.aside c.args.holder.now) (g.H.Holder.aside c.first_below.new.holder) first.walked first.stays.same_aside)
+    c.purse-held.ensures.few (subst (λ (b : Block). StoresRun g.F.Format.layout g.H.Holder.tells v w 1 b) c.block.ensures
+    (subst (λ (n : ℕ). StoresRun g.F.Format.layout g.H.Holder.tells v w n c.block.result) (sym one) c.write_run.ensures.stored))

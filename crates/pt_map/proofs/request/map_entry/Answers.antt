@@ -1,34 +1,33 @@
-use Rattle.pt_map.proofs.OneBlock.{at_most, block_counts, block_end, block_mapped, block_may, block_tiles}
+use Rattle.std.proofs.Common.{◌≡◌, ℕ, ◌≤◌, arith, sym, ap, ◌∙◌, subst}
+use Rattle.pt_model.specs.declared.block.Block.{Block}
+use Rattle.pt_view.specs.declared.view.View.{View}
+use Rattle.pt_view.specs.Views.{linked_count}
+use Rattle.pt_map.specs.Filled.{MayStoreRun, StoresRun}
+use Rattle.pt_map.proofs.Belows.{occupied_below}
+use Rattle.pt_map.proofs.Maps.{linked_walked}
+use Rattle.pt_map.proofs.OneBlock.{block_end, block_mapped, block_may}
 use Rattle.pt_map.proofs.request.map_entry.Goals as goal
+
+pub first_at-requires-clause-one : goal.first_at-requires-clause-one
+first_at-requires-clause-one g c =
+    block_end g.F.Format.layout g.met.F.Format.lawful_layout c.args.extent c.requires.may.stands.at.extent c.args.level c.args.log2 c.requires.block.size c.requires.one c.requires.block.whole
 
 pub write_entry-requires-clause-may : goal.write_entry-requires-clause-may
 write_entry-requires-clause-may g c =
     let first = c.first_at.ensures in
-    block_may g.F.Format.layout g.met.F.Format.lawful_layout g.H.Holder.tells (g.H.Holder.view c.args.holder.now) (g.H.Holder.view c.first_at.new.holder) c.args.part c.args.level c.requires.may
-    c.args.log2 c.requires.size (at_most c.requires.one) c.requires.whole first.walked first.path (c.in_default.ensures.lowest c.requires.may.clear)
+    let v : View = g.H.Holder.view c.first_at.new.holder in
+    subst (λ (b : Block). MayStoreRun g.F.Format.layout v 1 b c.args.level) (sym c.block.ensures)
+    (block_may g.met.F.Format.lawful_layout c.requires.may c.requires.block first.walked first.path (c.in_default.ensures.lowest c.requires.may.clear))
 
-pub write_entry-requires-clause-run : goal.write_entry-requires-clause-run
-write_entry-requires-clause-run g c =
+pub returns-in-Some-clause-ends : goal.returns-in-Some-clause-ends
+returns-in-Some-clause-ends g c =
     let first = c.first_at.ensures in
-    block_tiles g.F.Format.layout g.met.F.Format.lawful_layout g.H.Holder.tells (g.H.Holder.view c.args.holder.now) (g.H.Holder.view c.first_at.new.holder) c.args.part c.args.level c.requires.may
-    c.args.log2 c.requires.size (at_most c.requires.one) c.requires.whole first.walked first.path (c.in_default.ensures.lowest c.requires.may.clear)
+    occupied_below first.walked first.path c.byte_of.ensures (c.in-Some.ensures.lowest c.requires.may.clear)
 
-pub returns-clause-mapped : goal.returns-clause-mapped
-returns-clause-mapped g c =
+pub returns-clause-ends : goal.returns-clause-ends
+returns-clause-ends g c =
     let first = c.first_at.ensures in
-    block_mapped g.F.Format.layout g.met.F.Format.lawful_layout g.H.Holder.tells (g.H.Holder.view c.args.holder.now) (g.H.Holder.view c.first_at.new.holder) c.args.part c.args.level c.requires.may
-    c.args.log2 c.requires.size (at_most c.requires.one) c.requires.whole first.walked first.path (c.in_default.ensures.lowest c.requires.may.clear)
-    (g.H.Holder.alone c.args.holder.now) (g.H.Holder.alone c.first_at.new.holder) first.stays.still_alone (g.H.Holder.view c.write_entry.new.holder)
-    (g.H.Holder.linked c.args.holder.now) (g.H.Holder.linked c.first_at.new.holder) first.linked c.purse-held.ensures.few c.write_entry.ensures.purse c.write_entry.ensures.filled
-
-pub returns-clause-counts : goal.returns-clause-counts
-returns-clause-counts g c =
-    let first = c.first_at.ensures in
-    block_counts g.F.Format.layout g.met.F.Format.lawful_layout g.H.Holder.tells (g.H.Holder.view c.args.holder.now) (g.H.Holder.view c.first_at.new.holder) c.args.part c.args.level c.requires.may
-    c.args.log2 c.requires.size (at_most c.requires.one) c.requires.whole first.walked first.path (c.in_default.ensures.lowest c.requires.may.clear)
-    (g.H.Holder.alone c.args.holder.now) (g.H.Holder.alone c.first_at.new.holder) first.stays.still_alone (g.H.Holder.view c.write_entry.new.holder)
-    (g.H.Holder.linked c.args.holder.now) (g.H.Holder.linked c.first_at.new.holder) (g.H.Holder.linked c.write_entry.new.holder) first.linked c.write_entry.ensures.linked c.write_entry.ensures.filled
-
-pub first_at-requires-clause-one : goal.first_at-requires-clause-one
-first_at-requires-clause-one g c =
-    block_end g.F.Format.layout g.met.F.Format.lawful_layout c.args.part c.requires.may.at.part c.args.level c.args.log2 c.requires.size c.requires.one c.requires.whole
+    block_mapped g.met.F.Format.lawful_layout c.requires.may c.requires.block first.walked first.path (c.in_default.ensures.lowest c.requires.may.clear)
+    first.stays.still_alone
+    (linked_walked (g.H.Holder.view c.args.holder.now) (g.H.Holder.view c.first_at.new.holder) (g.H.Holder.aside c.args.holder.now) (g.H.Holder.aside c.first_at.new.holder) first.walked first.stays.same_aside)
+    c.purse-held.ensures.few (subst (λ (b : Block). StoresRun g.F.Format.layout g.H.Holder.tells (g.H.Holder.view c.first_at.new.holder) (g.H.Holder.view c.write_entry.new.holder) 1 b) c.block.ensures c.write_entry.ensures.stored)

@@ -17,7 +17,6 @@ abbrev pub invariant-survey-loop-rest : goal.invariant-survey-loop-rest
 invariant-survey-loop-rest g l =
     record {
       stays : Stays g.H.Holder.space g.H.Holder.aside g.H.Holder.alone l.initial.holder l.holder;
-      linked : g.H.Holder.alone l.initial.holder → g.H.Holder.linked l.holder ≡ g.H.Holder.linked l.initial.holder;
       gone : HasGone g.F.Format.layout g.H.Holder.tells (g.H.Holder.alone l.initial.holder) (g.H.Holder.view l.initial.holder) (g.H.Holder.view l.holder) l.initial.rest l.rest l.level l.cap l.absent;
       free : IsFree g.F.Format.layout (g.H.Holder.view l.initial.holder) l.initial.rest.first l.rest.first;
     }

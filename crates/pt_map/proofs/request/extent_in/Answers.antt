@@ -1,20 +1,20 @@
 use Rattle.std.proofs.Common.{◌≡◌, ℕ, ◌*◌, ◌/◌, ◌%◌, ◌^◌, inl, inr, ap, sym, ◌∙◌, arith}
 use Rattle.std.proofs.lemmas.Nat.{one_shl}
 use Rattle.pt_map.proofs.Numbers.{outside, past_output, requested, small_range}
-use Rattle.pt_map.proofs.request.part_in.Given.{Over}
-use Rattle.pt_map.proofs.request.part_in.Goals as goal
-use Rattle.pt_map.proofs.request.part_in.Goals.{After-OUTPUT, then-len-outputs-via-then-len-outputs, then-len-outputs-via-else-len-outputs+then-pa-outputs, then-range-span-via-then-range-span, then-range-span-via-else-range-span+then-end-span}
+use Rattle.pt_map.proofs.request.extent_in.Given.{Over}
+use Rattle.pt_map.proofs.request.extent_in.Goals.{After-OUTPUT, then-len-outputs-via-then-len-outputs, then-len-outputs-via-else-len-outputs+then-pa-outputs, then-range-span-via-then-range-span, then-range-span-via-else-range-span+then-end-span}
+use Rattle.pt_map.proofs.request.extent_in.Goals as goal
 
 pub overflow_add-end : goal.overflow_add-end
 overflow_add-end g c =
-    let small = small_range g.F.Format.layout g.met.F.Format.lawful_layout c.args.va c.args.pa c.args.len
+    let small = small_range g.met.F.Format.lawful_layout c.args.va c.args.pa c.args.len
     (sym c.if-not-is_whole.ensures) (sym c.if-not-is_whole-2.ensures) (sym c.if-not-is_whole-3.ensures) (let ne = c.if-len-eq0.false in omega arith)
     c.in-Some.range c.in-Some.ensures c.ranges.len.fits in
     omega arith
 
 pub returns-then-range-span-clause-refused : goal.returns-then-range-span-clause-refused
 returns-then-range-span-clause-refused g c =
-    outside g.F.Format.layout g.met.F.Format.lawful_layout c.args.va c.args.pa c.args.len
+    outside g.met.F.Format.lawful_layout c.args.va c.args.pa c.args.len
     (sym c.if-not-is_whole.ensures) (sym c.if-not-is_whole-2.ensures) (sym c.if-not-is_whole-3.ensures) (let ne = c.if-len-eq0.false in omega arith)
     c.in-Some.range c.in-Some.ensures c.args.span.first c.args.span.count
     (elim c.then-range-span.branch [
@@ -35,7 +35,7 @@ returns-then-len-outputs-clause-refused g c =
     let power = outputs g (goal.at.returns-then-len-outputs-clause-refused g c).After-OUTPUT in
     let low = c.if-range-span.false in
     let high = c.if-end-span.false in
-    past_output f g.met.F.Format.lawful_layout c.args.va c.args.pa c.args.len
+    past_output g.met.F.Format.lawful_layout c.args.va c.args.pa c.args.len
     (sym c.if-not-is_whole.ensures) (sym c.if-not-is_whole-2.ensures) (sym c.if-not-is_whole-3.ensures) (let ne = c.if-len-eq0.false in omega arith)
     c.in-Some.range c.in-Some.ensures c.args.span.first c.args.span.count (omega arith) (omega arith)
     (elim c.then-len-outputs.branch [
@@ -50,7 +50,7 @@ returns-clause-asked g c =
     let granule : c.GRANULE.result ≡ f.granule = c.GRANULE.ensures ∙ sym g.met.F.Format.has_constants.granule_is in
     let low = c.if-range-span.false in
     let high = c.if-end-span.false in
-    requested f g.met.F.Format.lawful_layout c.args.va c.args.pa c.args.len
+    requested g.met.F.Format.lawful_layout c.args.va c.args.pa c.args.len
     (sym c.if-not-is_whole.ensures) (sym c.if-not-is_whole-2.ensures) (sym c.if-not-is_whole-3.ensures) (let ne = c.if-len-eq0.false in omega arith)
     c.in-Some.range c.in-Some.ensures c.args.span.first c.args.span.count (omega arith) (omega arith)
     c.args.prot _ (ap (λ (k : ℕ). c.args.pa / 2 ^ k) granule) c.requires.stated c.requires.within

@@ -1,4 +1,4 @@
--- The tiling of a part: its first block, and the part under the entry over its first page.
+-- The tiling of an extent: its first block, and what lies under the entry over its first page.
 use Rattle.std.proofs.Common.{◌≡◌, ℕ, zero, suc, ◌+◌, ◌-◌, ◌*◌, ◌/◌, ◌%◌, ◌^◌, ◌<◌, ◌≤◌, List, ◌∷◌, ◌++◌, min, inl, inr, refl, ap, sym, ◌∙◌, arith}
 use Rattle.std.proofs.lemmas.Bool.{cases_eq, cases_lt}
 use Rattle.std.proofs.lemmas.Nat.{pow_pos, shr_split, shr_high, mod_below}
@@ -9,22 +9,23 @@ use Rattle.pt_model.specs.Tiling.{IsGreatestSize, block_at, greatest_size, tilin
 use Rattle.pt_model.proofs.TilingFacts.{tiling_first}
 use Rattle.pt_format.specs.Laws.{IsLayout}
 use Rattle.pt_tile.proofs.Begun.{coarse_is_fine, part_in}
-use Rattle.pt_map.specs.declared.part.Part.{Part}
-use Rattle.pt_map.specs.Parts.{IsPart, from, step, tiles, under_entry}
-use Rattle.pt_map.proofs.Steps.{greatest_is, step_greatest}
+use Rattle.pt_tile.specs.declared.extent.Extent.{Extent}
+use Rattle.pt_tile.specs.Extents.{IsExtent, first_size, from, tiles, under_entry}
+use Rattle.pt_tile.proofs.FirstSizes.{size_greatest}
+use Rattle.pt_tile.proofs.TileFacts.{greatest_is}
 
-module _ (f : Layout) (good : IsLayout f) (x : Part) (part : IsPart f x) where
-  pub first_tile : tiles f x ≡ block_at x.first (step f x) x.out x.prot ∷ tiles f (from x (x.first + 2 ^ step f x))
+module _ {f : Layout} (good : IsLayout f) {x : Extent} (part : IsExtent f x) where
+  pub first_tile : tiles f x ≡ block_at x.first (first_size f x) x.out x.prot ∷ tiles f (from x (x.first + 2 ^ first_size f x))
   first_tile =
       let some = part.some in
       let hi = part.in_input in
-      let out : x.out + 2 ^ step f x ≡ x.out + (x.first + 2 ^ step f x - x.first) = omega arith in
-      let left : x.end - x.first - 2 ^ step f x ≡ x.end - (x.first + 2 ^ step f x) = omega arith in
-      tiling_first f x.prot x.first x.out (x.end - x.first) (step f x) good.has_pages (omega arith) part.in_output (step_greatest f good x part)
-      ∙ (λ i. block_at x.first (step f x) x.out x.prot ∷ tiling f x.prot (x.first + 2 ^ step f x) (out i) (left i))
+      let out : x.out + 2 ^ first_size f x ≡ x.out + (x.first + 2 ^ first_size f x - x.first) = omega arith in
+      let left : x.end - x.first - 2 ^ first_size f x ≡ x.end - (x.first + 2 ^ first_size f x) = omega arith in
+      tiling_first f x.prot x.first x.out (x.end - x.first) (first_size f x) good.has_pages (omega arith) part.in_output (size_greatest good part)
+      ∙ (λ i. block_at x.first (first_size f x) x.out x.prot ∷ tiling f x.prot (x.first + 2 ^ first_size f x) (out i) (left i))
 
 -- Below one entry: blocks from a page on that are smaller than the entry end with it.
-module _ (f : Layout) (good : IsLayout f) (prot : Prot) (bits quotient cut end : ℕ) (hi : end ≤ input_pages f) (to : cut ≤ end) (within : cut ≤ (quotient + 1) * 2 ^ bits) where
+module _ {f : Layout} (good : IsLayout f) (prot : Prot) (bits quotient cut end : ℕ) (hi : end ≤ input_pages f) (to : cut ≤ end) (within : cut ≤ (quotient + 1) * 2 ^ bits) where
   -- a block at a page inside the entry is smaller than the entry
   pub inside_low : (s out k : ℕ) → quotient * 2 ^ bits < s → s < (quotient + 1) * 2 ^ bits → IsLegal f s k out → k < bits
   inside_low s out k after before legal = elim (cases_lt k bits) [
@@ -66,7 +67,7 @@ module _ (f : Layout) (good : IsLayout f) (prot : Prot) (bits quotient cut end :
     | inl same ↦ same_cut s out same
     | inr other ↦
         let k : ℕ = greatest_size f s out (end - s) in
-        let top : IsGreatestSize f s out (end - s) k = greatest_is f good.has_pages s out (end - s) (omega arith) (omega arith) ho in
+        let top : IsGreatestSize f s out (end - s) k = greatest_is f s out (end - s) good.has_pages (omega arith) (omega arith) ho in
         let ends : s + 2 ^ k ≤ cut = ends_within s out k after (omega arith) (low k (omega arith) top) top is in
         let some : 0 < 2 ^ k = pow_pos k in
         let left : end - s - 2 ^ k ≡ end - (s + 2 ^ k) = omega arith in
@@ -86,7 +87,7 @@ module _ (f : Layout) (good : IsLayout f) (prot : Prot) (bits quotient cut end :
         ∙ ap (λ (bs : List Block). bs ++ tiling f prot cut (out + (cut - s)) (end - cut)) (sym short)
   ]
 
-module _ (f : Layout) (good : IsLayout f) (x : Part) (part : IsPart f x) (level : ℕ) where
+module _ {f : Layout} (good : IsLayout f) {x : Extent} (part : IsExtent f x) (level : ℕ) where
   abbrev over : ℕ
   over = x.first / pages_of_entry f level
 
@@ -97,7 +98,7 @@ module _ (f : Layout) (good : IsLayout f) (x : Part) (part : IsPart f x) (level 
   entry_ends = let s = shr_split x.first (f.index * level) in let m = mod_below x.first (pages_of_entry f level) (pow_pos (f.index * level)) in omega arith
 
   -- the part under the entry over its first page is a part, and ends where it does or with the entry
-  pub under_part : IsPart f (under_entry f level x)
+  pub under_part : IsExtent f (under_entry f level x)
   under_part = record {
     some = let a = entry_ends in let b = part.some in omega arith;
     in_input = let b = part.in_input in omega arith;
@@ -106,14 +107,14 @@ module _ (f : Layout) (good : IsLayout f) (x : Part) (part : IsPart f x) (level 
   }
 
   -- where its first block is smaller than an entry, its blocks under the entry come first, and the first one is smaller too
-  pub split_tiles : step f x < f.index * level →
-      (tiles f x ≡ tiles f (under_entry f level x) ++ tiles f (from x (under_entry f level x).end)) × (step f (under_entry f level x) < f.index * level)
+  pub split_tiles : first_size f x < f.index * level →
+      (tiles f x ≡ tiles f (under_entry f level x) ++ tiles f (from x (under_entry f level x).end)) × (first_size f (under_entry f level x) < f.index * level)
   split_tiles low =
       let cut : ℕ = (under_entry f level x).end in
       let a = entry_has in let b = entry_ends in let c = part.some in let hi = part.in_input in let ho = part.in_output in
-      let top = step_greatest f good x part in (
-        split_from f good x.prot (f.index * level) over cut x.end hi (omega arith) (omega arith) (cut - x.first) x.first x.out refl (omega arith) a (omega arith) ho
+      let top = size_greatest good part in (
+        split_from good x.prot (f.index * level) over cut x.end hi (omega arith) (omega arith) (cut - x.first) x.first x.out refl (omega arith) a (omega arith) ho
             (λ k inside t. let at_most = top.greatest k t.legal t.fits in omega arith),
-        (let t = step_greatest f good (under_entry f level x) under_part in
-            let at_most = top.greatest (step f (under_entry f level x)) t.legal (let fits = t.fits in omega arith) in omega arith),
+        (let t = size_greatest good under_part in
+            let at_most = top.greatest (first_size f (under_entry f level x)) t.legal (let fits = t.fits in omega arith) in omega arith),
       )

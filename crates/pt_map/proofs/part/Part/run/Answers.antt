@@ -1,7 +1,0 @@
-use Rattle.pt_map.proofs.Runs.{run_is}
-use Rattle.pt_map.proofs.part.Part.run.Goals as goal
-
-pub returns : goal.returns
-returns g c =
-    run_is g.F.Format.layout c.args.self c.args.log2 c.run_length.result c.requires.part.some c.requires.first c.run_length.ensures.some c.run_length.ensures.within
-    (c.run_length.ensures.run c.args.self.prot)

@@ -1,0 +1,89 @@
+use Rattle.std.proofs.Common.{◌≡◌, ℕ, ◌+◌, ◌*◌, ◌/◌, ◌<◌, ◌≤◌, List, sym, ap, ◌∙◌, subst, arith}
+use Rattle.pt_model.specs.Layout.{pages_of_entry}
+use Rattle.pt_tile.proofs.FirstSizes.{size_small}
+use Rattle.pt_view.specs.declared.view.View.{View}
+use Rattle.pt_view.specs.Views.{linked_count}
+use Rattle.pt_view.proofs.Loads.{root_loads}
+use Rattle.pt_map.proofs.FromRoot.{Begun, Reached, clear_here, low_size, may_map, owns_root, range_root, to_table}
+use Rattle.pt_map.proofs.Maps.{Done, accounts, answers, full_after, left_path, linked_walked, rests_after}
+use Rattle.pt_map.proofs.OneBlock.{block_end}
+use Rattle.pt_map.proofs.request.map_extent.Given.{Over}
+use Rattle.pt_map.proofs.request.map_extent.Goals.{After-INDEX, After-climb, After-descend-level, After-map_at-mapped}
+use Rattle.pt_map.proofs.request.map_extent.Goals as goal
+
+-- What is known at the root, at the table over all of the extent, and at the end.
+
+begun : (g : Over) (c : After-INDEX g) → Begun g.F.Format.layout g.H.Holder.tells (g.H.Holder.alone c.args.holder.now) (g.H.Holder.view c.args.holder.now) (g.H.Holder.view c.root-root.new.self) c.args.extent c.root-root.result
+begun g c = record { may = c.requires.may; fixed = c.requires.fixed; rooted = c.root-root.ensures.rooted }
+
+-- the level of an extent's first block, as the code makes it
+step_over : (log2 index size width : ℕ) → log2 ≡ size → index ≡ width → log2 / index ≡ size / width
+step_over log2 index size width a b = λ i. a i / b i
+
+reached : (g : Over) (c : After-descend-level g) → Begun g.F.Format.layout g.H.Holder.tells (g.H.Holder.alone c.args.holder.now) (g.H.Holder.view c.args.holder.now) (g.H.Holder.view c.root-root.new.self) c.args.extent c.root-root.result → Reached g.F.Format.layout g.H.Holder.tells (g.H.Holder.alone c.args.holder.now) (g.H.Holder.view c.args.holder.now) (g.H.Holder.view c.root-root.new.self) (g.H.Holder.view c.descend-level.new.holder) c.args.extent c.root-root.result c.descend-level.result
+reached g c b =
+    let good = g.met.F.Format.lawful_layout in
+    let e = c.descend-level.ensures in
+    let level = step_over c.args.log2 c.INDEX.result _ _ c.requires.size (c.INDEX.ensures ∙ sym g.met.F.Format.has_constants.index_is) in
+    record {
+      begun = b;
+      walked = e.walked;
+      range = e.range;
+      down = e.down;
+      low = subst (λ (n : ℕ). n ≤ c.descend-level.result) level e.lowest;
+      clear = e.clear (owns_root good b) (clear_here good b);
+    }
+
+done : (g : Over) (c : After-climb g) → Reached g.F.Format.layout g.H.Holder.tells (g.H.Holder.alone c.args.holder.now) (g.H.Holder.view c.args.holder.now) (g.H.Holder.view c.root-root.new.self) (g.H.Holder.view c.descend-level.new.holder) c.args.extent c.root-root.result c.descend-level.result → Done g.F.Format.layout g.H.Holder.tells (g.H.Holder.alone c.args.holder.now) (g.H.Holder.alone c.descend-level.new.holder) (g.H.Holder.view c.args.holder.now) (g.H.Holder.view c.root-root.new.self) (g.H.Holder.view c.descend-level.new.holder) (g.H.Holder.view c.map_at-mapped.new.holder) (g.H.Holder.view c.climb.new.holder) c.args.extent c.root-root.result c.descend-level.result (linked_count (g.H.Holder.view c.descend-level.new.holder) (g.H.Holder.aside c.descend-level.new.holder)) c.map_at-mapped.result
+done g c r = record { reached = r; ends = c.map_at-mapped.ensures.ends; left = c.climb.ensures.left }
+
+pub descend-level-requires-clause-range : goal.descend-level-requires-clause-range
+descend-level-requires-clause-range g c =
+    let at = goal.at.descend-level-requires-clause-range g c in range_root g.met.F.Format.lawful_layout (begun g at.After-INDEX)
+
+pub descend-level-requires-clause-lowest : goal.descend-level-requires-clause-lowest
+descend-level-requires-clause-lowest g c =
+    let at = goal.at.descend-level-requires-clause-lowest g c in
+    let level = step_over c.args.log2 c.INDEX.result _ _ c.requires.size (c.INDEX.ensures ∙ sym g.met.F.Format.has_constants.index_is) in
+    subst (λ (n : ℕ). n ≤ c.root-root.result) (sym level) (low_size g.met.F.Format.lawful_layout (begun g at.After-INDEX))
+
+pub map_at-mapped-requires-clause-may : goal.map_at-mapped-requires-clause-may
+map_at-mapped-requires-clause-may g c =
+    let at = goal.at.map_at-mapped-requires-clause-may g c in may_map g.met.F.Format.lawful_layout (reached g at.After-descend-level (begun g at.After-INDEX))
+
+pub climb-requires : goal.climb-requires
+climb-requires g c =
+    let at = goal.at.climb-requires g c in
+    left_path g.met.F.Format.lawful_layout (g.H.Holder.alone c.descend-level.new.holder) (linked_count (g.H.Holder.view c.descend-level.new.holder) (g.H.Holder.aside c.descend-level.new.holder)) (g.H.Holder.view c.map_at-mapped.new.holder) (reached g at.After-descend-level (begun g at.After-INDEX)) c.map_at-mapped.result c.map_at-mapped.ensures.ends
+
+pub returns-clause-rests : goal.returns-clause-rests
+returns-clause-rests g c = let at = goal.at.returns-clause-rests g c in rests_after g.met.F.Format.lawful_layout (done g at.After-climb (reached g at.After-descend-level (begun g at.After-INDEX)))
+
+pub returns-clause-full : goal.returns-clause-full
+returns-clause-full g c = let at = goal.at.returns-clause-full g c in full_after g.met.F.Format.lawful_layout (done g at.After-climb (reached g at.After-descend-level (begun g at.After-INDEX)))
+
+pub returns-clause-answered : goal.returns-clause-answered
+returns-clause-answered g c = let at = goal.at.returns-clause-answered g c in answers g.met.F.Format.lawful_layout (done g at.After-climb (reached g at.After-descend-level (begun g at.After-INDEX)))
+
+pub returns-clause-accounted : goal.returns-clause-accounted
+returns-clause-accounted g c = λ a.
+    let at = goal.at.returns-clause-accounted g c in
+    let r = reached g at.After-descend-level (begun g at.After-INDEX) in
+    let a_root = c.root-root.ensures.stays.still_alone a in
+    accounts g.met.F.Format.lawful_layout (done g at.After-climb r) (g.H.Holder.aside c.args.holder.now)
+    (linked_walked (g.H.Holder.view c.args.holder.now) (g.H.Holder.view c.descend-level.new.holder) (g.H.Holder.aside c.args.holder.now) (g.H.Holder.aside c.descend-level.new.holder)
+    (to_table g.met.F.Format.lawful_layout r) (c.descend-level.ensures.stays.same_aside ∙ c.root-root.ensures.stays.same_aside))
+    (c.descend-level.ensures.stays.still_alone a_root) (c.descend-level.ensures.owned a_root)
+
+pub map_at-mapped-requires-clause-small : goal.map_at-mapped-requires-clause-small
+map_at-mapped-requires-clause-small g c =
+    let small = size_small g.met.F.Format.lawful_layout c.requires.may.inside.extent in
+    let is = c.requires.size in omega arith
+
+pub descend-level-requires-clause-whole : goal.descend-level-requires-clause-whole
+descend-level-requires-clause-whole g c = λ t.
+    let w = c.requires.whole t in
+    let f = g.F.Format.layout in
+    let index : c.INDEX.result ≡ f.index = c.INDEX.ensures ∙ sym g.met.F.Format.has_constants.index_is in
+    subst (λ (i : ℕ). c.args.extent.end ≤ (c.args.extent.first / pages_of_entry f (c.args.log2 / i) + 1) * pages_of_entry f (c.args.log2 / i)) (sym index)
+    (block_end f g.met.F.Format.lawful_layout c.args.extent c.requires.may.inside.extent (c.args.log2 / f.index) c.args.log2 c.requires.size (sym w.0) w.1)
