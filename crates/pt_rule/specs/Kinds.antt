@@ -254,7 +254,8 @@ May f n (write frame number x) v = IsLowestIn v frame × MayPut f v number x
 May f n (clear frame number x) v = IsLowestIn v frame × MayDrop f v number x
 May f n (unlink frame number) v = MayCut f v frame number
 May f n (bridge frame old level) v =
-    (v.prepared ≡ Some (over_top frame level None)) × (lowest v.path ≡ Some (record { frame = old; position = spine_position level })) × (v.top ≤ level)
+    (v.prepared ≡ Some (over_top frame level None)) × (lowest v.path ≡ Some (record { frame = old; position = spine_position level }))
+    × (v.top ≤ level)
 May f n (unbridge frame level) v = (old : ℕ) × (v.prepared ≡ Some (over_top frame level (Some old)))
 May f n (raise frame old level) v = v.prepared ≡ Some (over_top frame level (Some old))
 
@@ -280,14 +281,17 @@ IsKnownTable f v q = v.count ≡ input_pages f → IsAmong v.tables q ⊎ IsTrue
 -- an entry that meets the span is zero, the word of an own piece, or the pointer to a linked frame
 pub data EntryTells (f : Layout) (n : ℕ) (v : View) (p : Position) (number found : ℕ) : Type 0 where
   zero : found ≡ 0 → IsVacant f v p number → EntryTells f n v p number found
-  own : (x : Piece) → IsOneOf v.pieces x → IsOwnPiece f v x → pieces_at f p number (x ∷ []) ≡ 1 → pieces_at f p number v.pieces ≡ 1 → found ≡ word_of f x → EntryTells f n v p number found
-  pointer : (frame : ℕ) → frame < n → IsTableLevel f p.level → found ≡ f.pointer p.level (frame_address f frame) → IsKnownTable f v (child_at f p number) →
+  own : (x : Piece) → IsOneOf v.pieces x → IsOwnPiece f v x → pieces_at f p number (x ∷ []) ≡ 1 → pieces_at f p number v.pieces ≡ 1 →
+      found ≡ word_of f x → EntryTells f n v p number found
+  pointer : (frame : ℕ) → frame < n → IsTableLevel f p.level → found ≡ f.pointer p.level (frame_address f frame) →
+      IsKnownTable f v (child_at f p number) →
       pieces_at f p number v.pieces ≡ 0 → EntryTells f n v p number found
 
 -- where no own piece stands, it is zero and the child is no table of the tree, or it is such a pointer
 pub data InstallTells (f : Layout) (n : ℕ) (v : View) (p : Position) (number found : ℕ) : Type 0 where
   zero : found ≡ 0 → IsVacant f v p number → is_spine v.levels (child_at f p number) ≡ false → InstallTells f n v p number found
-  pointer : (frame : ℕ) → frame < n → IsTableLevel f p.level → found ≡ f.pointer p.level (frame_address f frame) → IsKnownTable f v (child_at f p number) →
+  pointer : (frame : ℕ) → frame < n → IsTableLevel f p.level → found ≡ f.pointer p.level (frame_address f frame) →
+      IsKnownTable f v (child_at f p number) →
       InstallTells f n v p number found
 
 -- a store of a piece finds zero; where the span is the whole space, the book has the path's tables, and its top
@@ -346,7 +350,8 @@ retrace path v = record v { path = path }
 -- the law of a kind for such a holder
 abbrev pub KeepsCut : Layout → (n l : ℕ) → Kind → Type 0
 KeepsCut f n l k =
-    (words : List ℕ) (views : List View) (id : ℕ) (v : View) (path rest : List Node) → Lawful f n l words views → get_elem? views id ≡ some v →
+    (words : List ℕ) (views : List View) (id : ℕ) (v : View) (path rest : List Node) → Lawful f n l words views →
+    get_elem? views id ≡ some v →
     0 < v.count → v.path ≡ path ++ rest → May f n k (retrace path v) →
     let found = slice_index words (place_of f n k) in
     Lawful f n l (slice_set words (place_of f n k) (put f k (retrace path v) found)) (slice_set views id (after f k found (retrace path v)))

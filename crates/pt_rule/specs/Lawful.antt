@@ -73,8 +73,10 @@ abbrev pub slot_of : Layout → Position → ℕ
 slot_of f p = p.base / pages_of_table f p.level % 2 ^ f.index
 
 pub record ParentsPart (f : Layout) (n l : ℕ) (words : List ℕ) (views : List View) : Type 0 where
-  pub closed : (p : Position) → IsTrue (is_in_tree l words views p) → p ≢ spine_position (root_level words) → IsTrue (is_in_tree l words views (parent_of f p))
-  pub named : (g h : ℕ) (p : Position) → IsLinkedAt n words views h p → p ≢ spine_position (root_level words) → IsLinkedAt n words views g (parent_of f p) →
+  pub closed : (p : Position) → IsTrue (is_in_tree l words views p) → p ≢ spine_position (root_level words) →
+      IsTrue (is_in_tree l words views (parent_of f p))
+  pub named : (g h : ℕ) (p : Position) → IsLinkedAt n words views h p → p ≢ spine_position (root_level words) →
+      IsLinkedAt n words views g (parent_of f p) →
       entry_of f n words g (slot_of f p) ≡ f.pointer (p.level + 1) (frame_address f h)
 
 -- 6. Entries: an entry of a linked frame for which the tree has no child is the word of the one piece that

@@ -53,13 +53,15 @@ pub record MayNote (f : Layout) (n l : ℕ) (words : List ℕ) (views : List Vie
 -- the rule holds too with what a view may note
 abbrev pub ViewsNote : Type 0
 ViewsNote =
-    (f : Layout) (n l : ℕ) (words : List ℕ) (views : List View) (id : ℕ) (v w : View) → Lawful f n l words views → get_elem? views id ≡ some v →
+    (f : Layout) (n l : ℕ) (words : List ℕ) (views : List View) (id : ℕ) (v w : View) → Lawful f n l words views →
+    get_elem? views id ≡ some v →
     0 < v.count → MayNote f n l words views v w → Lawful f n l words (slice_set views id w)
 
 -- a view whose span is the whole space is the only live one, and the rule holds with it alone
 abbrev pub WholeIsAlone : Type 0
 WholeIsAlone =
-    (f : Layout) (n l : ℕ) (words : List ℕ) (views : List View) (id : ℕ) (v : View) → Lawful f n l words views → get_elem? views id ≡ some v →
+    (f : Layout) (n l : ℕ) (words : List ℕ) (views : List View) (id : ℕ) (v : View) → Lawful f n l words views →
+    get_elem? views id ≡ some v →
     v.count ≡ input_pages f →
     Lawful f n l words (v ∷ []) × ((j : ℕ) (u : View) → get_elem? views j ≡ some u → 0 < u.count → j ≡ id)
 
@@ -67,32 +69,37 @@ WholeIsAlone =
 -- the frames, and all of them where every frame is on its busy list
 abbrev pub WholeIsCounted : Type 0
 WholeIsCounted =
-    (f : Layout) → IsLayout f → (n l : ℕ) (words : List ℕ) (views : List View) (id : ℕ) (v : View) → Lawful f n l words views → get_elem? views id ≡ some v →
+    (f : Layout) → IsLayout f → (n l : ℕ) (words : List ℕ) (views : List View) (id : ℕ) (v : View) → Lawful f n l words views →
+    get_elem? views id ≡ some v →
     v.count ≡ input_pages f →
     (linked_of v + held_count v ≤ n) × (HasEveryFrame v → linked_of v + held_count v ≡ n)
 
 -- the book of a live view at rest is lawful
 abbrev pub BooksAreLawful : Type 0
 BooksAreLawful =
-    (f : Layout) → IsLayout f → (n l : ℕ) (words : List ℕ) (views : List View) (id : ℕ) (v : View) → Lawful f n l words views → get_elem? views id ≡ some v →
+    (f : Layout) → IsLayout f → (n l : ℕ) (words : List ℕ) (views : List View) (id : ℕ) (v : View) → Lawful f n l words views →
+    get_elem? views id ≡ some v →
     0 < v.count → (blocks : List Block) → IsAtRest f v blocks → IsLawful f v.levels (book_of v blocks)
 
 -- where a view is cut in two at a page on which no block lies across, both parts have its place; where two views side
 -- by side become one, the other's place has the spent view
 abbrev pub SplitsKeep : Type 0
 SplitsKeep =
-    (f : Layout) → IsLayout f → (n l : ℕ) (words : List ℕ) (views : List View) (id : ℕ) (v : View) (at kept : ℕ) → Lawful f n l words views → get_elem? views id ≡ some v →
+    (f : Layout) → IsLayout f → (n l : ℕ) (words : List ℕ) (views : List View) (id : ℕ) (v : View) (at kept : ℕ) →
+    Lawful f n l words views → get_elem? views id ≡ some v →
     0 < v.count → MaySplit f at kept (retrace [] v) →
     Lawful f n l words (slice_set views id (left_part f at kept (retrace [] v)) ++ right_part f at kept (retrace [] v) ∷ [])
 
 abbrev pub JoinsKeep : Type 0
 JoinsKeep =
-    (f : Layout) → IsLayout f → (n l : ℕ) (words : List ℕ) (views : List View) (id other : ℕ) (v w : View) → Lawful f n l words views → get_elem? views id ≡ some v →
+    (f : Layout) → IsLayout f → (n l : ℕ) (words : List ℕ) (views : List View) (id other : ℕ) (v w : View) → Lawful f n l words views →
+    get_elem? views id ≡ some v →
     ¬ (other ≡ id) → get_elem? views other ≡ some w → 0 < v.count → 0 < w.count → MayJoin f (retrace [] v) (retrace [] w) →
     Lawful f n l words (slice_set (slice_set views id (joined (retrace [] v) (retrace [] w))) other spent)
 
 -- what holds of each live view
 abbrev pub ViewsHold : Type 0
 ViewsHold =
-    (f : Layout) → IsLayout f → (n l : ℕ) (words : List ℕ) (views : List View) (id : ℕ) (v : View) → Lawful f n l words views → get_elem? views id ≡ some v →
+    (f : Layout) → IsLayout f → (n l : ℕ) (words : List ℕ) (views : List View) (id : ℕ) (v : View) → Lawful f n l words views →
+    get_elem? views id ≡ some v →
     0 < v.count → Holds f n l v

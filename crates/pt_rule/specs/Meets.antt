@@ -75,7 +75,8 @@ pub record Unlinks (f : Layout) (n : ℕ) (v : View) (frame number found : ℕ) 
   pub pointer : (p : Position) → IsEntryAt f v p number → IsPointer f p.level found (frame_address f child)
   pub may_unlink : May f n (unlink frame number) (in_child f frame number found v)
   pub may_unplace : (zeroed : ℕ) → May f n (unplace child) (out_of_child f frame number found zeroed v)
-  pub unlinked : (zeroed last : ℕ) → IsUnlinked f Always number v (after f (unplace child) last (out_of_child f frame number found zeroed v))
+  pub unlinked : (zeroed last : ℕ) →
+      IsUnlinked f Always number v (after f (unplace child) last (out_of_child f frame number found zeroed v))
 
 abbrev pub UnlinkMeets : Type 0
 UnlinkMeets =
@@ -94,9 +95,11 @@ pub record Grows (f : Layout) (n : ℕ) (v : View) (may : MayGrow v) (old : ℕ)
   pub may_raise : May f n (raise may.frame may.root may.level) (with_bridge f v may old)
   pub won : (found : ℕ) → Tells f n (raise may.frame may.root may.level) (with_bridge f v may old) found →
       found ≡ root_word may.root may.level → IsGrown f Always (IsWhole f v) v Yes (with_raise f v may old found)
-  pub may_unbridge : (found : ℕ) → found ≢ root_word may.root may.level → May f n (unbridge may.frame may.level) (with_raise f v may old found)
+  pub may_unbridge : (found : ℕ) → found ≢ root_word may.root may.level →
+      May f n (unbridge may.frame may.level) (with_raise f v may old found)
   pub lost : (found last : ℕ) → Tells f n (raise may.frame may.root may.level) (with_bridge f v may old) found →
-      found ≢ root_word may.root may.level → IsGrown f Always (IsWhole f v) v Met (after f (unbridge may.frame may.level) last (with_raise f v may old found))
+      found ≢ root_word may.root may.level →
+      IsGrown f Always (IsWhole f v) v Met (after f (unbridge may.frame may.level) last (with_raise f v may old found))
 
 abbrev pub GrowMeets : Type 0
 GrowMeets =

@@ -61,7 +61,8 @@ has_this_word f level word x =
 abbrev pub piece_found : Layout → (level word first : ℕ) → Found → Option Piece
 piece_found f level word first nothing = None
 piece_found f level word first (page out prot) =
-    option_map (piece_of_size f level first out prot) (find (λ log2. has_this_word f level word (piece_of_size f level first out prot log2)) f.sizes)
+    option_map (piece_of_size f level first out prot) (find (λ log2. has_this_word f level word
+    (piece_of_size f level first out prot log2)) f.sizes)
 piece_found f level word first (table address) = None
 piece_found f level word first alien = None
 
@@ -78,7 +79,8 @@ with_piece f pieces (Some x) = add_piece f pieces x
 abbrev pub pieces_with_frame : Layout → (n : ℕ) → List ℕ → (frame : ℕ) → List Piece → (count : ℕ) → List Piece
 pieces_with_frame f n words frame pieces zero = pieces
 pieces_with_frame f n words frame pieces (suc number) =
-    with_piece f (pieces_with_frame f n words frame pieces number) (piece_in f (placed_at (tag words frame)) number (entry_of f n words frame number))
+    with_piece f (pieces_with_frame f n words frame pieces number) (piece_in f (placed_at (tag words frame)) number
+    (entry_of f n words frame number))
 
 -- the pieces at the entries of the first so many frames that are linked, in the order of their first pages
 abbrev pub pieces_in : Layout → (n : ℕ) (prepared : Option ℕ) → List ℕ → (frames : ℕ) → List Piece

@@ -3,9 +3,10 @@
 //! the laws of formats (`pt_format`), and has no code.
 //!
 //! Promised: a new space is lawful; each step keeps the rule, whatever the words and the other views are, and
-//! the number that it finds tells what its kind says; a holder of the whole space is the only one; the book of a
-//! holder at rest is lawful; the pieces and the tables of a holder of the whole space are read from the words; the
-//! manual's walk of the words is the union of what the views map.
+//! the number that it finds tells what its kind says, which is what the holder's call says of its view; a view is cut
+//! in two and two are put together; a holder of the whole space is the only one; the book of a holder at rest is
+//! lawful; the pieces and the tables of a holder of the whole space are read from the words; the manual's walk of the
+//! words is the union of what the views map.
 #![tactic(auto)]
 
 ghost use Rattle.pt_rule.specs.Laws.{NewIsLawful, StepsKeep, FrontsKeep, ViewsNote, SplitsKeep, JoinsKeep, ViewsHold, WholeIsAlone, WholeIsCounted, BooksAreLawful};
