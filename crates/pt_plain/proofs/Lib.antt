@@ -1,3 +1,4 @@
+-- The fields of an owner, and the view that they say.
 mod Laws
 mod Chains
 mod Paths
@@ -5,8 +6,10 @@ mod Known
 mod Matches
 mod Owners
 mod ReadBack
-mod Carried
+-- One step, and what it says of that view.
 mod Steps
+mod Carried
+-- The calls, and a new space.
 mod Stored
 mod PathCalls
 mod TagCalls

@@ -20,7 +20,7 @@ use Rattle.pt_rule.specs.WholeView.{tables_in, pieces_in}
 
 -- The fields of an owner: the words, the frames of the space and the levels that it started with; the span; the first
 -- of the frames held, and their number; the frame of the table of each level of the path, down to `level`; the frame
--- that is about to be linked. While none has been narrowed the span is the whole space.
+-- that is about to be linked. Until a holder is narrowed the span is the whole space.
 pub record Fields : Type 0 where
   pub words : List ℕ
   pub frames : ℕ
@@ -147,8 +147,8 @@ pub record HasWholeSpan (f : Layout) (first count : ℕ) : Type 0 where
   pub first_is : first ≡ 0
   pub count_is : count ≡ input_pages f
 
--- What holds of the fields: the words meet the rule with the view, the purse is all of the chain, and the
--- table of each level of the path is placed at that level.
+-- What holds of the fields: the words meet the rule with the view of the whole space, which the span is, the purse is
+-- all of the chain, and the table of each level of the path is placed at that level.
 pub record IsOwner (f : Layout) (o : Fields) : Type 0 where
   pub lawful : Lawful f o.frames o.levels o.words (whole_view f o ∷ [])
   pub span : HasWholeSpan f o.first o.count
