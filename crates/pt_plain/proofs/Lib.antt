@@ -1,4 +1,4 @@
--- The fields of an owner, and the view that they say.
+-- The fields of an owner, the view that they say, and one step.
 mod Laws
 mod Chains
 mod Paths
@@ -6,7 +6,6 @@ mod Known
 mod Matches
 mod Owners
 mod ReadBack
--- One step, and what it says of that view.
 mod Steps
 mod Carried
 -- The calls, and a new space.
