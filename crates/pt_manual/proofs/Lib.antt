@@ -2,3 +2,4 @@ pub mod Cases
 pub mod WalkFacts
 pub mod VtdCases
 pub mod X86Cases
+pub mod RiscvCases

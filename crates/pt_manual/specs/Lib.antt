@@ -3,3 +3,4 @@ pub mod Granting
 pub mod NineBitWalk
 pub mod VtdWalk
 pub mod X86Walk
+pub mod RiscvWalk

@@ -25,9 +25,9 @@ pub record Manual : Type 0 where
 abbrev pub by_bits : (entry : (number address bits : ℕ) → Step) → (number word : ℕ) → Step
 by_bits entry number word = entry number (address_of word) (bits_of word)
 
--- the page of a step begins within 52 bits, and is of no more than 64
+-- the page of a step begins within 56 bits, and is of no more than 64
 abbrev pub IsInOutput : Step → Type 0
-IsInOutput step = (address log2 : ℕ) (read write : Bool) → step ≡ Page address log2 read write → (address < 2 ^ 52) × (log2 < 64)
+IsInOutput step = (address log2 : ℕ) (read write : Bool) → step ≡ Page address log2 read write → (address < 2 ^ 56) × (log2 < 64)
 
 -- a page as what is granted allows it
 abbrev pub page_as : (number out : ℕ) → Granted → Walked

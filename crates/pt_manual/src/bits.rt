@@ -22,7 +22,7 @@ pub fn has(set: u64, bits: u64) -> bool
 
 /// Whether all bits of `set` are 1, those of `free` are either, and every other bit is 0.
 pub fn has_only(set: u64, free: u64, bits: u64) -> bool
-    requires { set + free < 2 ^ 12 }
+    requires { set + free < 2 ^ 64 }
     ensures { result ≡ EntryBits.has_only set free bits }
 {
     has(set, bits) && bits & (set + free) == bits

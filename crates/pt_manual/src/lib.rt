@@ -3,8 +3,9 @@
 //! Each is written from its manual alone, in the manual's own levels and fields, and knows nothing of a
 //! format. `walk_vtdss` is that of VT-d second-stage tables (Intel Virtualization Technology for Directed
 //! I/O, Architecture Specification, second-stage translation), `walk_x86` that of x86-64 tables (Intel 64
-//! and IA-32 Architectures Software Developer's Manual, volume 3, paging). Both take nine index bits at
-//! each level, AND the permissions along the way, and differ in what an entry says.
+//! and IA-32 Architectures Software Developer's Manual, volume 3, paging), `walk_riscv` that of RISC-V tables
+//! (Privileged Architecture, virtual address translation). All take nine index bits at each level, AND the
+//! permissions along the way, and differ in what an entry says.
 //!
 //! The words are a root, a tag for each frame, and the frames. An entry that is present and of no form of
 //! the profile is alien, at the level of its table; so is a pointer past the frames, and a bad root.
@@ -14,6 +15,7 @@
 #![tactic(auto)]
 
 mod bits;
+mod riscv;
 mod space;
 mod step;
 mod vtd;
@@ -21,6 +23,7 @@ mod walk;
 mod walked;
 mod x86;
 
+pub use riscv::walk_riscv;
 pub use vtd::walk_vtdss;
 pub use walked::Walked;
 pub use x86::walk_x86;
