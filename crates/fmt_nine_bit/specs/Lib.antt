@@ -1,2 +1,3 @@
 pub mod OverPages
 pub mod ManualEntries
+pub mod ManualLayout
