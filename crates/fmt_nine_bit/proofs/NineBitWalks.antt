@@ -21,7 +21,7 @@ use Rattle.fmt_nine_bit.specs.ManualLayout.{IsReadBy, Words, layout_by}
 use Rattle.fmt_nine_bit.specs.ManualEntries.{ReadsWritten, entries_by}
 
 -- what a leaf says is what is granted
-granted_is : (prot : Prot) → allowed (may_read prot) (may_write prot) ≡ granted prot
+pub granted_is : (prot : Prot) → allowed (may_read prot) (may_write prot) ≡ granted prot
 granted_is Read = refl
 granted_is ReadWrite = refl
 

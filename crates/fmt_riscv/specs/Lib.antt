@@ -1,0 +1,4 @@
+pub mod RiscvWords
+pub mod Sizes
+pub mod RiscvFacts
+pub mod RiscvLaws
