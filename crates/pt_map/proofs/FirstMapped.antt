@@ -16,7 +16,7 @@ use Rattle.pt_walk.proofs.Descent.{own_piece}
 use Rattle.pt_view.specs.Views.{IsAtRest, book_of}
 use Rattle.pt_walk.specs.Walks.{IsFree, IsLowest, IsOwn, OwnsAll}
 use Rattle.pt_walk.proofs.Books.{piece_over}
-use Rattle.pt_map.proofs.Blocks.{Apart, InOrder, in_order_from}
+use Rattle.pt_map.proofs.BlocksAdded.{Apart, InOrder, in_order_from}
 use Rattle.pt_tile.specs.Extents.{IsOneBlock}
 
 -- Blocks of a list.

@@ -1,25 +1,31 @@
-pub mod Blocks
-pub mod FirstMapped
-pub mod Puts
-pub mod Words
-pub mod Needs
-pub mod Ways
-pub mod Stand
-pub mod Links
-pub mod Spent
-pub mod Fills
-pub mod Writes
-pub mod Entries
-pub mod FillTurns
-pub mod Gone
-pub mod Absences
-pub mod Surveys
-pub mod Gathers
-pub mod TablesAfter
-pub mod Lacking
-pub mod Belows
-pub mod OneBlock
-pub mod Results
-pub mod FromRoot
-pub mod Maps
-pub mod Numbers
+-- Lists: pieces and blocks put among others, and the lowest mapped page by both.
+mod PiecesAdded
+mod BlocksAdded
+mod FirstMapped
+-- Words of blocks, and the tables that blocks need.
+mod BlockWords
+mod NeededTables
+mod LackingTables
+-- The numbers of a request, and where the way to its extent stands.
+mod RequestNumbers
+mod PathTables
+mod StandAfter
+-- The look before a change: what is absent.
+mod AbsentShown
+mod AbsentCounted
+mod SurveyFinds
+mod FramesDrawn
+-- The writing: tables that are linked, frames that are spent, and words.
+mod LinkedTables
+mod FramesSpent
+mod RunEntries
+mod WordsWritten
+mod FilledParts
+mod FillTurns
+-- A map: one block, from a table on down, from the root, and its answer.
+mod OneBlock
+mod TablesAfter
+mod MapFromTable
+mod MapResults
+mod MapFromRoot
+mod MapAnswers

@@ -15,7 +15,7 @@ use Rattle.pt_view.specs.Loads.{ByLoads}
 use Rattle.pt_tile.specs.declared.extent.Extent.{Extent}
 use Rattle.pt_map.specs.Filled.{MayStore, MayStoreRun, StoresRun}
 use Rattle.pt_map.specs.Requests.{MappedBelow, MayMapBelow}
-use Rattle.pt_map.proofs.Belows.{mapped_below, may_store}
+use Rattle.pt_map.proofs.MapFromTable.{mapped_below, may_store}
 use Rattle.std.proofs.lemmas.Nat.{div-add-mod'}
 use Rattle.pt_tile.proofs.RunTilings.{run_shifted}
 use Rattle.pt_tile.proofs.FirstSizes.{size_greatest}
@@ -23,8 +23,8 @@ use Rattle.pt_tile.proofs.UnderEntries.{first_tile}
 use Rattle.pt_tile.specs.Extents.{IsExtent, IsRun, first_size, from, tables_below, tiles, block}
 use Rattle.pt_map.proofs.FillTurns.{may_run, none_below, run_leaves, fills_run}
 use Rattle.pt_map.specs.Stands.{IsBlockOf}
-use Rattle.pt_map.proofs.Surveys.{nothing_counted}
-use Rattle.pt_map.proofs.Gathers.{gathered_none}
+use Rattle.pt_map.proofs.SurveyFinds.{nothing_counted}
+use Rattle.pt_map.proofs.FramesDrawn.{gathered_none}
 
 distrib : (q m : ℕ) → (q + 1) * m ≡ q * m + m
 distrib q m = grind arith

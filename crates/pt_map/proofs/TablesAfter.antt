@@ -22,7 +22,7 @@ use Rattle.pt_walk.specs.Walks.{IsFree}
 use Rattle.pt_view.proofs.Members.{mapped_one, piece_at}
 use Rattle.pt_tile.specs.declared.extent.Extent.{Extent}
 use Rattle.pt_map.specs.Answers.{HasNoEmptyTable, book_with}
-use Rattle.pt_map.proofs.Needs.{AnyNeeds, needs_any, needs_of_block, needed_same}
+use Rattle.pt_map.proofs.NeededTables.{AnyNeeds, needs_any, needs_of_block, needed_same}
 use Rattle.pt_map.proofs.FirstMapped.{piece_of_block}
 use Rattle.pt_tile.specs.Extents.{IsExtent, IsOneBlock, tables_of, tiles}
 use Rattle.pt_tile.proofs.FirstParts.{tile_of}

@@ -7,7 +7,7 @@ use Rattle.pt_tile.proofs.FirstParts.{first_from, first_to}
 use Rattle.pt_tile.proofs.FirstSizes.{outputs_few, size_small}
 use Rattle.pt_tile.proofs.RunTilings.{run_fewer, run_fits}
 use Rattle.pt_map.specs.Filled.{MayFill, MayStoreRun, StoresRun}
-use Rattle.pt_map.proofs.Fills.{may_inside, may_into, may_leave, room_into, some_level}
+use Rattle.pt_map.proofs.FilledParts.{may_inside, may_into, may_leave, room_into, some_level}
 use Rattle.pt_map.proofs.FillTurns.{entry_inner, fills_entry, fills_inner, fills_run, filling_all, filling_next, filling_none, lacking_below, lies_first, may_fill_inner, may_fill_rest, may_run, run_leaves, to_run}
 use Rattle.pt_map.proofs.fill.+fill.Goals as goal
 

@@ -3,7 +3,7 @@ use Rattle.pt_model.specs.Layout.{pages_of_entry}
 use Rattle.pt_model.specs.Tables.{IsPosition}
 use Rattle.pt_model.specs.declared.position.Position.{Position}
 use Rattle.pt_walk.proofs.Cuts.{pages_few}
-use Rattle.pt_map.proofs.Links.{deeper_met, deeper_won, down_is, may_install, next_is, next_legal, spends_met, spends_won}
+use Rattle.pt_map.proofs.LinkedTables.{deeper_met, deeper_won, down_is, may_install, next_is, next_legal, spends_met, spends_won}
 use Rattle.pt_map.proofs.fill.link.Given.{Over}
 use Rattle.pt_map.proofs.fill.link.Goals.{After-align_down}
 use Rattle.pt_map.proofs.fill.link.Goals as goal

@@ -1,8 +1,8 @@
 use Rattle.std.proofs.Common.{◌≡◌, ℕ, ◌+◌, ◌-◌, ◌*◌, ◌/◌, ◌%◌, ◌^◌, ◌<◌, [], refl, ap, sym, ◌∙◌, subst, arith}
 use Rattle.pt_view.specs.declared.view.View.{View}
 use Rattle.pt_view.specs.Calls.{IsWritten, MayWrite}
-use Rattle.pt_map.proofs.Entries.{entries_some, first_leaf, may_write_entry, put_entry, run_filled}
-use Rattle.pt_map.proofs.Writes.{put_none}
+use Rattle.pt_map.proofs.RunEntries.{entries_some, first_leaf, may_write_entry, put_entry, run_filled}
+use Rattle.pt_map.proofs.WordsWritten.{put_none}
 use Rattle.pt_map.proofs.fill.write_entry.Given.{Over}
 use Rattle.pt_map.proofs.fill.write_entry.Goals.{After-entry_number}
 use Rattle.pt_map.proofs.fill.write_entry.Goals as goal

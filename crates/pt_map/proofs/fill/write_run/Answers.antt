@@ -2,7 +2,7 @@ use Rattle.std.proofs.Common.{◌≡◌, ℕ, ◌-◌, ◌*◌, ◌%◌, ◌^◌
 use Rattle.std.proofs.Math.Pow.{pow_mono}
 use Rattle.pt_view.specs.declared.view.View.{View}
 use Rattle.pt_view.specs.Calls.{IsWrittenRun, MayWriteRun}
-use Rattle.pt_map.proofs.Entries.{entries_few, first_leaf, may_run_words, put_run, run_filled}
+use Rattle.pt_map.proofs.RunEntries.{entries_few, first_leaf, may_run_words, put_run, run_filled}
 use Rattle.pt_map.proofs.fill.write_run.Given.{Over}
 use Rattle.pt_map.proofs.fill.write_run.Goals.{After-INDEX}
 use Rattle.pt_map.proofs.fill.write_run.Goals as goal

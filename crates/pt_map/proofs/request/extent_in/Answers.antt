@@ -1,6 +1,6 @@
 use Rattle.std.proofs.Common.{◌≡◌, ℕ, ◌*◌, ◌/◌, ◌%◌, ◌^◌, inl, inr, ap, sym, ◌∙◌, arith}
 use Rattle.std.proofs.lemmas.Nat.{one_shl}
-use Rattle.pt_map.proofs.Numbers.{outside, past_output, requested, small_range}
+use Rattle.pt_map.proofs.RequestNumbers.{outside, past_output, requested, small_range}
 use Rattle.pt_map.proofs.request.extent_in.Given.{Over}
 use Rattle.pt_map.proofs.request.extent_in.Goals.{After-OUTPUT, then-len-outputs-via-then-len-outputs, then-len-outputs-via-else-len-outputs+then-pa-outputs, then-range-span-via-then-range-span, then-range-span-via-else-range-span+then-end-span}
 use Rattle.pt_map.proofs.request.extent_in.Goals as goal

@@ -5,8 +5,8 @@ use Rattle.pt_view.specs.declared.view.View.{View}
 use Rattle.pt_walk.specs.Walks.{IsFree}
 use Rattle.pt_tile.specs.Extents.{tables_below}
 use Rattle.pt_map.specs.Absent.{Counted}
-use Rattle.pt_map.proofs.Belows.{lack_below, mapped_below, may_fill, occupied_below}
-use Rattle.pt_map.proofs.Maps.{linked_walked}
+use Rattle.pt_map.proofs.MapFromTable.{lack_below, mapped_below, may_fill, occupied_below}
+use Rattle.pt_map.proofs.MapAnswers.{linked_walked}
 use Rattle.pt_map.proofs.request.map_below.Given.{Over}
 use Rattle.pt_map.proofs.request.map_below.Goals.{In-Absent}
 use Rattle.pt_map.proofs.request.map_below.Goals as goal

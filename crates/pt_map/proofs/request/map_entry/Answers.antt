@@ -3,8 +3,8 @@ use Rattle.pt_model.specs.declared.block.Block.{Block}
 use Rattle.pt_view.specs.declared.view.View.{View}
 use Rattle.pt_view.specs.Views.{linked_count}
 use Rattle.pt_map.specs.Filled.{MayStoreRun, StoresRun}
-use Rattle.pt_map.proofs.Belows.{occupied_below}
-use Rattle.pt_map.proofs.Maps.{linked_walked}
+use Rattle.pt_map.proofs.MapFromTable.{occupied_below}
+use Rattle.pt_map.proofs.MapAnswers.{linked_walked}
 use Rattle.pt_map.proofs.OneBlock.{block_end, block_mapped, block_may}
 use Rattle.pt_map.proofs.request.map_entry.Goals as goal
 

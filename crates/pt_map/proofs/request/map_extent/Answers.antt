@@ -4,8 +4,8 @@ use Rattle.pt_tile.proofs.FirstSizes.{size_small}
 use Rattle.pt_view.specs.declared.view.View.{View}
 use Rattle.pt_view.specs.Views.{linked_count}
 use Rattle.pt_view.proofs.Loads.{root_loads}
-use Rattle.pt_map.proofs.FromRoot.{Begun, Reached, clear_here, low_size, may_map, owns_root, range_root, to_table}
-use Rattle.pt_map.proofs.Maps.{Done, accounts, answers, full_after, left_path, linked_walked, rests_after}
+use Rattle.pt_map.proofs.MapFromRoot.{Begun, Reached, clear_here, low_size, may_map, owns_root, range_root, to_table}
+use Rattle.pt_map.proofs.MapAnswers.{Done, accounts, answers, full_after, left_path, linked_walked, rests_after}
 use Rattle.pt_map.proofs.OneBlock.{block_end}
 use Rattle.pt_map.proofs.request.map_extent.Given.{Over}
 use Rattle.pt_map.proofs.request.map_extent.Goals.{After-INDEX, After-climb, After-descend-level, After-map_at-mapped}

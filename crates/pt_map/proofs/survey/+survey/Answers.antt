@@ -5,9 +5,9 @@ use Rattle.pt_tile.specs.declared.extent.Extent.{Extent}
 use Rattle.pt_tile.proofs.FirstParts.{first_from, first_to}
 use Rattle.pt_tile.proofs.FirstSizes.{outputs_few, size_small}
 use Rattle.pt_tile.proofs.RunTilings.{run_fits}
-use Rattle.pt_map.proofs.Absences.{level_high}
-use Rattle.pt_map.proofs.Gone.{gone_all, gone_none, inner_entry, inner_to}
-use Rattle.pt_map.proofs.Surveys.{free_on_to, gone_on, may_survey_inner, may_survey_inside, may_survey_rest, may_survey_run, none_in_run, none_lowest, run_first, surveyed_empty, surveyed_entered, surveyed_inner, surveyed_leaf, surveyed_mapped, surveyed_run}
+use Rattle.pt_map.proofs.AbsentShown.{level_high}
+use Rattle.pt_map.proofs.AbsentCounted.{gone_all, gone_none, inner_entry, inner_to}
+use Rattle.pt_map.proofs.SurveyFinds.{free_on_to, gone_on, may_survey_inner, may_survey_inside, may_survey_rest, may_survey_run, none_in_run, none_lowest, run_first, surveyed_empty, surveyed_entered, surveyed_inner, surveyed_leaf, surveyed_mapped, surveyed_run}
 use Rattle.pt_view.proofs.Stays.{stays_here, stays_on}
 use Rattle.pt_walk.proofs.Ranges.{range_enters, range_load}
 use Rattle.pt_view.proofs.Loads.{some_path}

@@ -1,6 +1,6 @@
 use Rattle.std.proofs.Common.{◌-◌, ◌≡◌, ◌+◌, ◌*◌}
 use Rattle.pt_walk.specs.Walks.{IsFree}
-use Rattle.pt_map.proofs.Gone.{HasGone}
+use Rattle.pt_map.proofs.AbsentCounted.{HasGone}
 use Rattle.pt_view.specs.Views.{Stays}
 use Rattle.pt_map.proofs.survey.+survey.Given as goal
 

@@ -1,4 +1,4 @@
-use Rattle.pt_map.proofs.Surveys.{nothing_counted}
+use Rattle.pt_map.proofs.SurveyFinds.{nothing_counted}
 use Rattle.pt_tile.specs.Extents.{tables_below}
 use Rattle.pt_map.proofs.survey.look.Goals as goal
 

@@ -1,5 +1,5 @@
 use Rattle.std.proofs.Common.{◌≡◌, ◌-◌, ◌≤◌, length, min, sym, ◌∙◌, ap}
-use Rattle.pt_map.proofs.Needs.{count_below}
+use Rattle.pt_map.proofs.NeededTables.{count_below}
 use Rattle.pt_map.proofs.survey.needed_below.Given.{Over}
 use Rattle.pt_map.proofs.survey.needed_below.Goals.{After-tables_needed}
 use Rattle.pt_tile.specs.Extents.{tables_below}

@@ -25,12 +25,12 @@ use Rattle.pt_view.proofs.Entries.{child_is, entry_first_is, entry_meets, number
 use Rattle.pt_model.proofs.Quotients.{entry_is_table}
 use Rattle.pt_tile.specs.declared.extent.Extent.{Extent}
 use Rattle.pt_map.specs.Absent.{Counted, shows}
-use Rattle.pt_map.proofs.Needs.{LiesUnder, below_under, needs_over, needs_sorted}
+use Rattle.pt_map.proofs.NeededTables.{LiesUnder, below_under, needs_over, needs_sorted}
 use Rattle.pt_map.specs.Stands.{IsEntryExtent, IsExtentAt, IsOwnTable}
 use Rattle.pt_tile.specs.Extents.{tables_below, tables_of, tiles}
 use Rattle.pt_map.specs.Answers.{unknown}
-use Rattle.pt_map.proofs.Stand.{at_inside, loads_keep}
-use Rattle.pt_map.proofs.Gone.{shown_right}
+use Rattle.pt_map.proofs.StandAfter.{at_inside, loads_keep}
+use Rattle.pt_map.proofs.AbsentCounted.{shown_right}
 
 -- A load of an entry that was zero.
 record Shut (f : Layout) (tells : Type 0) (v : View) (p : Position) (number : ℕ) (w : View) : Type 0 where

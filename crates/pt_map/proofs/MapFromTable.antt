@@ -35,9 +35,9 @@ use Rattle.pt_map.specs.Filled.{HasNoPiece, MayStore, Fills, MayFill, HasRoom}
 use Rattle.pt_map.specs.Requests.{Gathered, IsLackOf, LacksFrames, MappedBelow, MayMapBelow, HasFrames, RefusedBelow}
 use Rattle.pt_map.proofs.TablesAfter.{no_table_in}
 use Rattle.pt_tile.specs.Extents.{tables_below, tiles}
-use Rattle.pt_map.proofs.Stand.{stands_moves}
+use Rattle.pt_map.proofs.StandAfter.{stands_moves}
 use Rattle.pt_tile.proofs.FirstParts.{tile_of}
-use Rattle.pt_map.proofs.Gone.{shown_left}
+use Rattle.pt_map.proofs.AbsentCounted.{shown_left}
 use Rattle.pt_map.specs.declared.refused.MapRefused.TheVariants as refused
 
 -- Pieces and tables of a free range.

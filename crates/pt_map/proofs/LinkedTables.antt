@@ -30,7 +30,7 @@ use Rattle.pt_view.proofs.Entries.{child_is, entry_meets, number_within}
 use Rattle.pt_view.proofs.Pieces.{counted}
 use Rattle.pt_walk.proofs.Cuts.{quotient_cut}
 use Rattle.pt_map.specs.Filled.{HasRoom, IsDeeper, MayGoInto, Spends, next_table}
-use Rattle.pt_map.proofs.Spent.{spends_none, spends_one, without}
+use Rattle.pt_map.proofs.FramesSpent.{spends_none, spends_one, without}
 
 -- a page aligned down to the pages of an entry
 pub down_is : (page k base : ℕ) → page < 2 ^ 52 → base % 2 ^ min k 63 ≡ 0 → base ≤ page → page < base + 2 ^ min k 63 → base ≡ page / 2 ^ k * 2 ^ k

@@ -31,8 +31,8 @@ use Rattle.pt_walk.proofs.Ranges.{clear_root}
 use Rattle.pt_map.specs.Answers.{HasNoEmptyTable}
 use Rattle.pt_map.specs.Requests.{MayMap, MayMapBelow}
 use Rattle.pt_map.specs.Stands.{StandsAt}
-use Rattle.pt_map.proofs.Needs.{space_in_table, top_is}
-use Rattle.pt_map.proofs.Results.{Standing}
+use Rattle.pt_map.proofs.NeededTables.{space_in_table, top_is}
+use Rattle.pt_map.proofs.MapResults.{Standing}
 use Rattle.pt_map.proofs.TablesAfter.{member_at, sorted_tables}
 
 -- a way down, and a further one from its end

@@ -17,7 +17,7 @@ use Rattle.pt_walk.specs.Walks.{OwnsOver}
 use Rattle.pt_tile.specs.declared.extent.Extent.{Extent}
 use Rattle.pt_map.specs.Absent.{IsMissing, is_shown}
 use Rattle.pt_map.specs.Answers.{lacking, unknown}
-use Rattle.pt_map.proofs.Needs.{needs_over, needs_page, needs_sorted, needed_same}
+use Rattle.pt_map.proofs.NeededTables.{needs_over, needs_page, needs_sorted, needed_same}
 use Rattle.pt_tile.specs.Extents.{IsExtent, tables_below, tables_of, tiles}
 use Rattle.pt_map.specs.Stands.{IsOwnTable}
 use Rattle.pt_tile.proofs.Needed.{needed_below}

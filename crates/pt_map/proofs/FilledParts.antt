@@ -28,13 +28,13 @@ use Rattle.pt_walk.specs.Walks.{IsWayDown}
 use Rattle.pt_tile.specs.declared.extent.Extent.{Extent}
 use Rattle.pt_map.specs.Filled.{Filled, HasNoPiece, HasRoom, IsDeeper, IsTableIn, MayStore, MayGoInto, next_table}
 use Rattle.pt_tile.proofs.FirstParts.{block_left, block_right, cut_part, cut_step, first_block, first_from, first_level, first_split, first_to, low_after, rest_part, tile_of}
-use Rattle.pt_map.proofs.Needs.{needs_append, needs_over, needs_page, over_needed}
-use Rattle.pt_map.proofs.Puts.{add_append, at_adds, piece_at}
-use Rattle.pt_map.proofs.Spent.{room_part}
-use Rattle.pt_map.proofs.Words.{past_elsewhere, more}
+use Rattle.pt_map.proofs.NeededTables.{needs_append, needs_over, needs_page, over_needed}
+use Rattle.pt_map.proofs.PiecesAdded.{add_append, at_adds, piece_at}
+use Rattle.pt_map.proofs.FramesSpent.{room_part}
+use Rattle.pt_map.proofs.BlockWords.{past_elsewhere, more}
 use Rattle.pt_map.specs.Stands.{IsEntryExtent}
 use Rattle.pt_tile.specs.Extents.{IsExtent, IsFirstTo, IsOneBlock, first_size, tables_below, tables_of, tiles, up_to, from}
-use Rattle.pt_map.proofs.Stand.{Keeps, keeps_here, stands_inside, stands_moves}
+use Rattle.pt_map.proofs.StandAfter.{Keeps, keeps_here, stands_inside, stands_moves}
 
 -- Needed positions below a level.
 

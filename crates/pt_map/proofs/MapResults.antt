@@ -28,10 +28,10 @@ use Rattle.pt_map.specs.declared.refused.MapRefused.{MapRefused}
 use Rattle.pt_map.specs.Absent.{Counted, IsMissing, is_shown}
 use Rattle.pt_map.specs.Answers.{AddsToHistory, FindsAbsent, FindsEach, HasNoEmptyTable, IsMapped, IsRefused, IsShortOf, IsWanting, KeepsPurse, WantsFrames, book_with, lacking, refusal_of, unknown, LinksAll}
 use Rattle.pt_map.specs.Requests.{LacksFrames, MappedBelow, HasCause, RefusedBelow, occupied}
-use Rattle.pt_map.proofs.Gone.{shown_right}
-use Rattle.pt_map.proofs.Blocks.{Apart, adds_pieces, in_order_from}
+use Rattle.pt_map.proofs.AbsentCounted.{shown_right}
+use Rattle.pt_map.proofs.BlocksAdded.{Apart, adds_pieces, in_order_from}
 use Rattle.pt_map.proofs.FirstMapped.{first_mapped, free_apart, none_mapped}
-use Rattle.pt_map.proofs.Lacking.{absent_all, absent_few, absent_most, absent_shown, tables_more}
+use Rattle.pt_map.proofs.LackingTables.{absent_all, absent_few, absent_most, absent_shown, tables_more}
 use Rattle.pt_map.proofs.TablesAfter.{full_after, tables_after}
 use Rattle.pt_tile.specs.Extents.{IsExtent, from, tables_below, tables_of, tiles}
 use Rattle.pt_map.specs.Stands.{IsOwnTable}

@@ -27,9 +27,9 @@ use Rattle.pt_view.specs.Views.{SamePurse, SameRange}
 use Rattle.pt_view.specs.Calls.{IsWritten, MayPut, MayWrite, entry_end, entry_first, is_under, lowest, off_spine, pieces_at}
 use Rattle.pt_tile.specs.declared.extent.Extent.{Extent}
 use Rattle.pt_map.specs.Filled.{Filled, MayStore}
-use Rattle.pt_map.proofs.Puts.{add_append, at_adds, piece_at}
-use Rattle.pt_map.proofs.Ways.{positions, way_tables}
-use Rattle.pt_map.proofs.Words.{number_at, number_low, stands_here, table_at, word_ends, word_first, word_is, words_are}
+use Rattle.pt_map.proofs.PiecesAdded.{add_append, at_adds, piece_at}
+use Rattle.pt_map.proofs.PathTables.{positions, way_tables}
+use Rattle.pt_map.proofs.BlockWords.{number_at, number_low, stands_here, table_at, word_ends, word_first, word_is, words_are}
 use Rattle.pt_tile.specs.Extents.{IsOneBlock, tiles}
 use Rattle.pt_tile.specs.Counting.{at_level}
 

@@ -30,14 +30,14 @@ use Rattle.pt_view.specs.Calls.{ArePieces, IsWritten, IsWrittenRun, MayPut, MayW
 use Rattle.pt_num.proofs.Bits.{exponent_below}
 use Rattle.pt_model.proofs.Quotients.{quotient}
 use Rattle.pt_map.specs.Filled.{Filled, MayStore, MayStoreRun}
-use Rattle.pt_map.proofs.Fills.{may_part}
+use Rattle.pt_map.proofs.FilledParts.{may_part}
 use Rattle.pt_tile.proofs.FirstParts.{IsTile, tile_of}
-use Rattle.pt_map.proofs.Needs.{needs_any, needs_over, needs_page, over_needed, run_needs}
-use Rattle.pt_map.proofs.Puts.{piece_at, stands_not}
+use Rattle.pt_map.proofs.NeededTables.{needs_any, needs_over, needs_page, over_needed, run_needs}
+use Rattle.pt_map.proofs.PiecesAdded.{piece_at, stands_not}
 use Rattle.pt_tile.proofs.FirstSizes.{outputs_few, size_greatest}
-use Rattle.pt_map.proofs.Ways.{positions, tables_way, way_tables}
-use Rattle.pt_map.proofs.Words.{first_whole, more_low, number_at, piece_number, size_is, word_is}
-use Rattle.pt_map.proofs.Writes.{IsPut, among_off, block_part, may_leaf, may_put, may_write, put_filled, put_next, put_none, top_reaches}
+use Rattle.pt_map.proofs.PathTables.{positions, tables_way, way_tables}
+use Rattle.pt_map.proofs.BlockWords.{first_whole, more_low, number_at, piece_number, size_is, word_is}
+use Rattle.pt_map.proofs.WordsWritten.{IsPut, among_off, block_part, may_leaf, may_put, may_write, put_filled, put_next, put_none, top_reaches}
 use Rattle.pt_tile.specs.Extents.{IsExtent, IsOneBlock, blocks_of, extent_of, first_size, tables_of, tiles}
 use Rattle.pt_tile.proofs.TileFacts.{one_greatest}
 use Rattle.pt_tile.proofs.Levels.{over_first}

@@ -23,12 +23,12 @@ use Rattle.pt_map.specs.declared.survey.Found.TheVariants.{Mapped, Absent}
 use Rattle.pt_map.specs.Absent.{Counted, Finds, MaySurvey, Surveyed}
 use Rattle.pt_model.proofs.Positions.{among_filtered}
 use Rattle.pt_tile.specs.Extents.{tables_below, tables_of, IsFirstTo, IsRun, first_size, under_entry, up_to, from}
-use Rattle.pt_map.proofs.Gone.{HasGone, gone_more, inner_at, inner_clear, rest_clear, run_none, rest_at}
+use Rattle.pt_map.proofs.AbsentCounted.{HasGone, gone_more, inner_at, inner_clear, rest_clear, run_none, rest_at}
 use Rattle.pt_map.specs.Stands.{IsEntryExtent}
-use Rattle.pt_map.proofs.Stand.{at_moves, keeps_here}
-use Rattle.pt_map.proofs.Absences.{open_counted, open_part, shut_counted}
+use Rattle.pt_map.proofs.StandAfter.{at_moves, keeps_here}
+use Rattle.pt_map.proofs.AbsentShown.{open_counted, open_part, shut_counted}
 use Rattle.pt_tile.proofs.FirstParts.{cut_part, cut_step, first_to}
-use Rattle.pt_map.proofs.Links.{next_is}
+use Rattle.pt_map.proofs.LinkedTables.{next_is}
 use Rattle.pt_tile.proofs.RunTilings.{run_from, run_shifted}
 
 -- a walk counts nothing where nothing is needed

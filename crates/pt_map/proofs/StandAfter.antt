@@ -18,8 +18,8 @@ use Rattle.pt_tile.specs.declared.extent.Extent.{Extent}
 use Rattle.pt_tile.specs.Extents.{IsExtent, first_size}
 use Rattle.pt_tile.proofs.FirstParts.{first_level}
 use Rattle.pt_map.specs.Stands.{IsEntryExtent, IsExtentAt, StandsAt}
-use Rattle.pt_map.proofs.Needs.{same_table}
-use Rattle.pt_map.proofs.Ways.{way_moves, way_on}
+use Rattle.pt_map.proofs.NeededTables.{same_table}
+use Rattle.pt_map.proofs.PathTables.{way_moves, way_on}
 use Rattle.pt_view.specs.Loads.{ByLoads}
 
 -- a step that keeps the range, the top and the prepared frame, and forgets no linked position

@@ -25,14 +25,14 @@ use Rattle.pt_tile.specs.declared.extent.Extent.{Extent}
 use Rattle.pt_map.specs.Absent.{Counted, is_shown, shows}
 use Rattle.pt_tile.proofs.FirstParts.{cut_part, first_from, first_split, first_to, tile_of, low_after}
 use Rattle.pt_tile.proofs.RunTilings.{run_from, run_tiles}
-use Rattle.pt_map.proofs.Needs.{LiesUnder, below_under, needs_any, needs_append, run_needs}
+use Rattle.pt_map.proofs.NeededTables.{LiesUnder, below_under, needs_any, needs_append, run_needs}
 use Rattle.pt_tile.proofs.UnderEntries.{split_tiles, under_part}
 use Rattle.pt_map.specs.Stands.{IsEntryExtent, IsExtentAt, IsOwnTable}
 use Rattle.pt_tile.specs.Extents.{IsExtent, IsFirstTo, IsOneBlock, IsRun, first_size, tables_below, tables_of, tiles, under_entry, up_to, from}
 use Rattle.pt_model.proofs.Positions.{among_filtered, among_passes, places_append, among_append, among_left, among_right}
-use Rattle.pt_map.proofs.Entries.{one}
+use Rattle.pt_map.proofs.RunEntries.{one}
 use Rattle.pt_map.specs.Answers.{unknown}
-use Rattle.pt_map.proofs.Stand.{at_moves, keeps_here, loads_keep}
+use Rattle.pt_map.proofs.StandAfter.{at_moves, keeps_here, loads_keep}
 
 -- the positions below a level that blocks need
 abbrev pub below : Layout → (level : ℕ) → List Block → List Position

@@ -17,11 +17,11 @@ use Rattle.pt_view.specs.Loads.{ByLoads}
 use Rattle.pt_map.specs.declared.refused.MapRefused.{MapRefused}
 use Rattle.pt_map.specs.Answers.{Accounts, Answers, HasNoEmptyTable, IsMapped, IsRefused, IsShortOf, IsWanting, KeepsPurse, LinksAll, extent_at}
 use Rattle.pt_map.specs.Requests.{EndsBelow, IsOfNumbers, MappedBelow, IsRefusedByNumbers, IsRequested, occupied}
-use Rattle.pt_map.proofs.FromRoot.{Reached, owns_table, path_long, standing}
-use Rattle.pt_map.proofs.Results.{Standing, rested}
+use Rattle.pt_map.proofs.MapFromRoot.{Reached, owns_table, path_long, standing}
+use Rattle.pt_map.proofs.MapResults.{Standing, rested}
 use Rattle.pt_view.proofs.Loads.{absences_here}
 use Rattle.pt_map.specs.declared.refused.MapRefused.TheVariants as refused
-use Rattle.pt_map.proofs.Results as results
+use Rattle.pt_map.proofs.MapResults as results
 
 -- what leaves the book leaves the count of linked positions
 pub linked_same : (v w : View) (aside : Aside) → SameRange v w → SameBook v w → linked_count w aside ≡ linked_count v aside
