@@ -1,6 +1,6 @@
 -- What a map of a range answers, by the book machine.
-use Rattle.std.proofs.Common.{◌≡◌, ◌<◌, ◌≤◌, ℕ, suc, zero, ◌+◌, ◌∷◌, ◌++◌, [], List, length, Bool, true, false, Option, Some, None, refl, ap, sym, ◌∙◌, subst, arith}
-use Rattle.std.specs.Prelude.{map, ◌==◌, if◌then◌else◌}
+use Rattle.std.proofs.Common.{◌≡◌, ◌<◌, ◌≤◌, ℕ, suc, zero, ◌+◌, ◌-◌, ◌/◌, ◌^◌, ◌∷◌, ◌++◌, [], List, length, Bool, true, false, Option, Some, None, refl, ap, sym, ◌∙◌, subst, arith}
+use Rattle.std.specs.Prelude.{nat_lt, map, ◌==◌, if◌then◌else◌}
 use Rattle.std.specs.List.{range_with_len}
 use Rattle.std.proofs.lemmas.Bool.{le-ltb, lt-ltb, ne_eqb}
 use Rattle.std.proofs.lemmas.Nat.{pow_pos}
@@ -10,6 +10,7 @@ use Rattle.pt_model.specs.declared.position.Position.{Position}
 use Rattle.pt_model.specs.declared.reply.MapAnswer.{MapAnswer}
 use Rattle.pt_model.specs.declared.reply.MapAnswer.TheVariants as mapping
 use Rattle.pt_model.specs.Layout.{Layout}
+use Rattle.pt_model.specs.Pages.{page_under}
 use Rattle.pt_model.specs.Book.{Book, MapRefusal, Misaligned, OutsideLease, OutputRange, Occupied, is_short, map_refusal, mapped}
 use Rattle.pt_model.specs.Run.{after_map, map_answer, refused_answer}
 use Rattle.pt_view.specs.declared.view.View.{View}
@@ -17,8 +18,8 @@ use Rattle.pt_view.specs.declared.view.Piece.{Piece}
 use Rattle.pt_view.specs.Pieces.{IsOneOf, all_pieces, pieces_of, words_of}
 use Rattle.pt_view.specs.Views.{IsAtRest, SameBook, SameRange, book_of, linked_of}
 use Rattle.pt_model.specs.Sets.{IsAmong}
-use Rattle.pt_walk.specs.Walks.{Walked}
-use Rattle.pt_map.specs.Answers.{HasNoEmptyTable, IsMapped, IsRefused, Request, lacking, request_of}
+use Rattle.pt_view.specs.Loads.{ByLoads}
+use Rattle.pt_map.specs.Answers.{HasNoEmptyTable, IsMapped, IsRefused, extent_at, lacking}
 use Rattle.iopt.specs.Built.{machine}
 use Rattle.iopt.specs.Running.{IsReady, MapsAs, blocks_of, book_in, machine_in}
 
@@ -61,17 +62,33 @@ module _ (f : Layout) (v w : View) (ready : IsReady f v) (va pa len : ℕ) (prot
   abbrev blocks : List Block
   blocks = blocks_of v.pieces
 
-  abbrev asked : Request
-  asked = request_of f va pa len prot
+  abbrev first : ℕ
+  first = page_under f va
+
+  abbrev count : ℕ
+  count = len / 2 ^ f.granule
+
+  abbrev out : ℕ
+  out = pa / 2 ^ f.granule
+
+  abbrev lacks : List Position
+  lacks = lacking f v blocks (extent_at f va pa len prot)
+
+  -- an extent is given by its end, and a request by its count
+  count_is : first + count - first ≡ count
+  count_is = omega arith
 
   abbrev refusal : Option MapRefusal
   refusal = map_refusal f (book_in v) va pa len
 
   abbrev short : Bool
-  short = is_short f v.levels v.frames (book_in v) asked.first asked.count asked.out prot
+  short = is_short f v.levels v.frames (book_in v) first count out prot
 
   abbrev after_it : Book
-  after_it = mapped f v.levels (book_in v) asked.first asked.count asked.out prot
+  after_it = mapped f v.levels (book_in v) first count out prot
+
+  short_is : (b : Bool) → nat_lt v.frames (linked_of v + length lacks) ≡ b → short ≡ b
+  short_is b e = subst (λ (c : ℕ). is_short f v.levels v.frames (book_in v) first c out prot ≡ b) count_is e
 
   -- the answer and the book of the book machine, by its refusal and by whether frames are short
   answer_by : (o : Option MapRefusal) (b : Bool) → refusal ≡ o → short ≡ b →
@@ -111,25 +128,26 @@ module _ (f : Layout) (v w : View) (ready : IsReady f v) (va pa len : ℕ) (prot
       same (Occupied address) = refl
 
   -- it wants frames
-  pub wants : refusal ≡ None → v.frames < linked_of v + length (lacking f v blocks asked) → IsRefused f ⊥ v w → MapsAs f v w va pa len prot mapping.Frames
+  pub wants : refusal ≡ None → v.frames < linked_of v + length lacks → IsRefused f ⊥ v w → MapsAs f v w va pa len prot mapping.Frames
   wants e more stays =
-      kept stays.range stays.book stays.path stays.prepared stays.end mapping.Frames (sym (answer_by None true e (lt-ltb v.frames (linked_of v + length (lacking f v blocks asked)) more))) refl
+      kept stays.range stays.book stays.path stays.prepared stays.end mapping.Frames (sym (answer_by None true e (short_is true (lt-ltb v.frames (linked_of v + length lacks) more)))) refl
 
   -- it is done
-  pub maps : refusal ≡ None → linked_of v + length (lacking f v blocks asked) ≤ v.frames → IsMapped f ⊥ v w blocks asked → MapsAs f v w va pa len prot mapping.Mapped
+  pub maps : refusal ≡ None → linked_of v + length lacks ≤ v.frames → IsMapped f ⊥ v w blocks (extent_at f va pa len prot) → MapsAs f v w va pa len prot mapping.Mapped
   maps e enough done =
-      let is : map_answer (machine_in f v) (book_in v) va pa len prot ≡ mapping.Mapped = answer_by None false e (le-ltb v.frames (linked_of v + length (lacking f v blocks asked)) enough) in
-      let now : blocks_of w.pieces ≡ (mapped f v.levels (book_of v blocks) asked.first asked.count asked.out prot).blocks = blocks_are f w _ done.rest in
+      let is : map_answer (machine_in f v) (book_in v) va pa len prot ≡ mapping.Mapped = answer_by None false e (short_is false (le-ltb v.frames (linked_of v + length lacks) enough)) in
+      let now : blocks_of w.pieces ≡ (mapped f v.levels (book_of v blocks) first (first + count - first) out prot).blocks = blocks_are f w _ done.rest in
       record {
         ready = record { rest = subst (IsAtRest f w) (sym now) done.rest; levels = done.range.levels ∙ ready.levels; full = full };
         machine = same_machine done.range;
         answers = sym is;
         book = (λ i. record { first = done.range.first i; count = done.range.count i; blocks = now i; tables = done.tables i; top = done.top i })
+            ∙ ap (λ (c : ℕ). mapped f v.levels (book_in v) first c out prot) count_is
             ∙ ap (λ (x : MapAnswer). after_map x after_it (book_in v)) (sym is);
       }
 
 -- A lookup leaves the holder as it was, but for what it knows.
-pub looked : (f : Layout) (tells : Type 0) (v w : View) → IsReady f v → Walked tells v w → IsAtRest f w (blocks_of v.pieces) → IsReady f w × (book_in w ≡ book_in v)
+pub looked : (f : Layout) (tells : Type 0) (v w : View) → IsReady f v → ByLoads tells v w → IsAtRest f w (blocks_of v.pieces) → IsReady f w × (book_in w ≡ book_in v)
 looked f tells v w ready walked rest = (
   record {
     rest = subst (λ (xs : List Piece). IsAtRest f w (blocks_of xs)) (sym walked.book.pieces) rest;

@@ -4,6 +4,7 @@ ghost use Rattle.std.specs.Prelude.{◌≡◌, ◌<◌, ◌≤◌, IfOk, IsTrue,
 ghost use Rattle.pt_model.specs.Words.{frame_limit};
 ghost use Rattle.pt_model.specs.Run.{run_of};
 ghost use Rattle.pt_model.specs.Text.{replies_text};
+ghost use Rattle.pt_plain.specs.Owner.{none_aside};
 ghost use Rattle.iopt.specs.Built.{is_built, are_built, machine};
 ghost use Rattle.iopt.specs.Running.{IsReady, MapsAs, FindsAs, AnswersAs};
 
@@ -19,7 +20,9 @@ use std::alloc::Global;
 fn map_range<F: Format>(plain: &mut Plain<F>, va: u64, pa: u64, len: u64, prot: Prot) -> MapAnswer
     requires fixed { F.layout.grows ≡ false }
     requires ready { IsReady F.layout plain.old.view }
-    ensures { MapsAs F.layout plain.old.view plain.new.view va pa len prot result }
+    requires alone { plain.old.aside ≡ none_aside }
+    ensures aside { plain.new.aside ≡ plain.old.aside }
+    ensures maps { MapsAs F.layout plain.old.view plain.new.view va pa len prot result }
 {
     match map::<F, Plain<F>>(plain, va, pa, len, prot) {
         Ok(()) => MapAnswer::Mapped,
@@ -33,7 +36,8 @@ fn map_range<F: Format>(plain: &mut Plain<F>, va: u64, pa: u64, len: u64, prot: 
 
 fn look_up<F: Format>(plain: &mut Plain<F>, va: u64) -> LookupAnswer
     requires ready { IsReady F.layout plain.old.view }
-    ensures { FindsAs F.layout plain.old.view plain.new.view va result }
+    ensures aside { plain.new.aside ≡ plain.old.aside }
+    ensures finds { FindsAs F.layout plain.old.view plain.new.view va result }
 {
     match lookup::<F, Plain<F>>(plain, va) {
         Ok(Some((out, prot))) => LookupAnswer::Found { out, prot },
@@ -46,8 +50,10 @@ fn look_up<F: Format>(plain: &mut Plain<F>, va: u64) -> LookupAnswer
 fn answer<F: Format>(plain: &mut Plain<F>, what: What) -> Answer
     requires fixed { F.layout.grows ≡ false }
     requires ready { IsReady F.layout plain.old.view }
+    requires alone { plain.old.aside ≡ none_aside }
     requires built { IsTrue (is_built what) }
-    ensures { AnswersAs F.layout plain.old.view plain.new.view what result }
+    ensures aside { plain.new.aside ≡ plain.old.aside }
+    ensures answers { AnswersAs F.layout plain.old.view plain.new.view what result }
 {
     match what {
         What::Map { va, pa, len, prot } => Answer::Map(map_range(plain, va, pa, len, prot)),
