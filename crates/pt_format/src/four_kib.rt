@@ -9,40 +9,39 @@ ghost use Rattle.pt_format.specs.FourKibLaws as Laws;
 use crate::entry_bits::{self, EntryBits};
 use crate::{Format, Read, WordRun};
 use pt_model::Prot;
+use std::marker::PhantomData;
 
-/// A format of the family: the entries of its manual in tables of so many levels, from 3 to 5. Each is a `Format`.
-pub trait FourKib: Drop {
-    /// The bits of its entries.
-    type Entry: EntryBits;
-
+/// The entries of a manual in tables of `L` levels, from 3 to 5.
+pub trait FourKibTables<const L: u32>: EntryBits {
     /// The bits of an input address.
     const INPUT: u32;
 
-    /// The number of levels.
-    const LEVELS: u32;
-
     ghost INPUT: { ℕ };
-
-    ghost LEVELS: { ℕ };
 
     /// The manual's walk.
     ghost walk: { List ℕ → (address : ℕ) → Reached };
 
-    ghost are_tables: { AreTables (tables Self.Entry.entries LEVELS INPUT walk) };
+    ghost are_tables: { AreTables (tables Self.entries L INPUT walk) };
 }
 
-impl<T: FourKib> Format for T {
+/// The format of the family with the entries `E` in tables of `L` levels.
+#[derive(Drop)]
+pub struct FourKib<E, const L: u32> {
+    of_entries: PhantomData<E>,
+}
+
+impl<E: FourKibTables<L>, const L: u32> Format for FourKib<E, L> {
     const GRANULE: u32 = 12;
 
     const INDEX: u32 = 9;
 
-    const INPUT: u32 = T::INPUT;
+    const INPUT: u32 = E::INPUT;
 
     const OUTPUT: u32 = 52;
 
-    const START: u32 = T::LEVELS;
+    const START: u32 = L;
 
-    const LEVELS: u32 = T::LEVELS;
+    const LEVELS: u32 = L;
 
     const GROWS: bool = false;
 
@@ -52,36 +51,36 @@ impl<T: FourKib> Format for T {
 
     ghost INDEX = { 9 };
 
-    ghost INPUT = { T.INPUT };
+    ghost INPUT = { E.INPUT };
 
     ghost OUTPUT = { 52 };
 
-    ghost START = { T.LEVELS };
+    ghost START = { L };
 
-    ghost LEVELS = { T.LEVELS };
+    ghost LEVELS = { L };
 
     ghost GROWS = { false };
 
     ghost SIGNED = { false };
 
-    ghost layout = { layout (tables T.Entry.entries T.LEVELS T.INPUT T.walk) };
+    ghost layout = { layout (tables E.entries L E.INPUT E.walk) };
 
-    ghost has_constants = { Laws.has_constants (tables T.Entry.entries T.LEVELS T.INPUT T.walk) };
+    ghost has_constants = { Laws.has_constants (tables E.entries L E.INPUT E.walk) };
 
-    ghost lawful_layout = { Laws.lawful_layout T.are_tables };
+    ghost lawful_layout = { Laws.lawful_layout E.are_tables };
 
-    ghost words_differ = { Laws.words_differ T.are_tables };
+    ghost words_differ = { Laws.words_differ E.are_tables };
 
-    ghost steps_agree = { Laws.steps_agree T.are_tables };
+    ghost steps_agree = { Laws.steps_agree E.are_tables };
 
-    ghost is_walk = { T.are_tables.is_walk };
+    ghost is_walk = { E.are_tables.is_walk };
 
     fn sizes(level: u32) -> u64 {
         entry_bits::sizes(level)
     }
 
     fn leaf_word(level: u32, _log2: u32, out: u64, prot: Prot, _part: u64) -> u64 {
-        entry_bits::leaf_word::<T::Entry>(level, out, prot)
+        entry_bits::leaf_word::<E>(level, out, prot)
     }
 
     fn word_run(_level: u32, log2: u32, _out: u64, _prot: Prot, count: u64) -> WordRun {
@@ -92,20 +91,20 @@ impl<T: FourKib> Format for T {
     }
 
     fn table_word(_level: u32, address: u64) -> u64 {
-        entry_bits::table_word::<T::Entry>(address)
+        entry_bits::table_word::<E>(address)
     }
 
     fn read_word(level: u32, word: u64) -> Read {
         if word == 0 {
             return Read::Empty;
         }
-        if let Some((_, prot)) = entry_bits::read_leaf::<T::Entry>(level, word) {
+        if let Some((_, prot)) = entry_bits::read_leaf::<E>(level, word) {
             return Read::Leaf {
                 log2: 9 * level,
                 prot,
             };
         }
-        match entry_bits::read_pointer::<T::Entry>(level, word) {
+        match entry_bits::read_pointer::<E>(level, word) {
             Some(address) => Read::Table { address },
             None => Read::Alien,
         }
@@ -113,11 +112,11 @@ impl<T: FourKib> Format for T {
 
     // Each word of the lowest level, and those with PS.
     fn is_leaf(level: u32, word: u64) -> bool {
-        level == 0 || entry_bits::has_page_size::<T::Entry>(word)
+        level == 0 || entry_bits::has_page_size::<E>(word)
     }
 
     fn prot_of(_level: u32, word: u64) -> Prot {
-        entry_bits::permission_in::<T::Entry>(word)
+        entry_bits::permission_in::<E>(word)
     }
 
     fn address_of(_level: u32, word: u64) -> u64 {

@@ -19,7 +19,7 @@ mod word_run;
 
 pub use entry_bits::EntryBits;
 pub use format::Format;
-pub use four_kib::FourKib;
+pub use four_kib::{FourKib, FourKibTables};
 pub use frame_address::is_frame_address;
 pub use pages::{byte_of, has_page, is_whole, page_of, page_under, pages_of, range_of};
 pub use pt_model::{Block, Prot};

@@ -1,7 +1,7 @@
 use Rattle.pt_format.specs.FourKib.{tables}
 use Rattle.pt_format.specs.FourKibLaws.{leaf_of_may}
 use Rattle.pt_format.proofs.FourKibWords.{leaf_from}
-use Rattle.pt_format.proofs.four_kib.AnyFormat.read_word.Goals as goal
+use Rattle.pt_format.proofs.four_kib.FourKibFormat.read_word.Goals as goal
 
 pub returns-in-None : goal.returns-in-None
 returns-in-None g c = record {
@@ -12,5 +12,5 @@ returns-in-None g c = record {
 
 pub returns-in-Some : goal.returns-in-Some
 returns-in-Some g c =
-    leaf_from (tables g.T.Entry.EntryBits.entries g.T.FourKib.LEVELS g.T.FourKib.INPUT g.T.FourKib.walk)
+    leaf_from (tables g.E.EntryBits.entries g.row.L g.E.FourKibTables.INPUT g.E.FourKibTables.walk)
     c.args.level c.args.word _ c.in-Some.prot c.requires c.in-Some.ensures
