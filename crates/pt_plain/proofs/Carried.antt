@@ -9,7 +9,7 @@ use Rattle.pt_view.specs.declared.holder.Seen.TheVariants.{Empty, Leaf, Entered}
 use Rattle.pt_view.specs.declared.holder.Won.{Won}
 use Rattle.pt_view.specs.declared.holder.Won.TheVariants.{Yes, Met}
 use Rattle.pt_view.proofs.Stays.{book_on, purse_on, range_on}
-use Rattle.pt_view.specs.Calls.{IsInstalled, IsPlaced, IsTaken, IsUnplaced, IsWritten, Looked, Prepares, Rooted, Takes, Went, zero, leaf, table}
+use Rattle.pt_view.specs.Calls.{IsCleared, IsInstalled, IsPlaced, IsTaken, IsUnlinked, IsUnplaced, IsWritten, Looked, Prepares, Rooted, Takes, Went, zero, leaf, table}
 use Rattle.pt_rule.specs.Meets.{Always, IsWhole}
 use Rattle.pt_plain.proofs.ReadBack.{Agrees}
 
@@ -124,5 +124,35 @@ module _ {f : Layout} {v u w : View} (a : Agrees u w) where
     pieces = λ y is put. a.same.book.pieces ∙ r.pieces y is put;
     top = λ y is put. a.same.book.top ∙ r.top y is put;
     stores = λ no. absurd no;
+    told = λ no. absurd no;
+  }
+
+  pub cleared_on : {number : ℕ} → IsCleared f Always number v u → IsCleared f ⊥ number v w
+  cleared_on r = record {
+    range = range_on r.range a.same.range;
+    purse = purse_on r.purse a.same.purse;
+    path = a.same.path ∙ r.path;
+    prepared = a.same.prepared ∙ r.prepared;
+    busy = λ x. through (r.busy x) (a.busy x);
+    known = λ p. through (r.known p) (a.known p);
+    tables = a.same.book.tables ∙ r.tables;
+    top = a.same.book.top ∙ r.top;
+    pieces = λ p entry. a.same.book.pieces ∙ r.pieces p entry;
+    stores = λ no. absurd no;
+    told = λ no. absurd no;
+  }
+
+  pub unlinked_on : {number : ℕ} → IsUnlinked f Always number v u → IsUnlinked f ⊥ number v w
+  unlinked_on r = record {
+    range = range_on r.range a.same.range;
+    pieces = a.same.book.pieces ∙ r.pieces;
+    top = a.same.book.top ∙ r.top;
+    path = a.same.path ∙ r.path;
+    purse = (r.purse.0, a.same.purse.purse ∙ r.purse.1);
+    end = a.same.purse.end ∙ r.end;
+    prepared = a.same.prepared ∙ r.prepared;
+    busy = λ x. through (r.busy x) (a.busy x);
+    tables = λ p entry. a.same.book.tables ∙ r.tables p entry;
+    known = λ p entry q. through (r.known p entry q) (a.known q);
     told = λ no. absurd no;
   }

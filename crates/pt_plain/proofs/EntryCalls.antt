@@ -58,10 +58,10 @@ module _ {f : Layout} {o : Fields} (own : IsOwner f o) (number : ℕ) where
 
 -- the tags and the root stay where an entry is stored
 module _ (f : Layout) (o : Fields) (frame number word : ℕ) (words : List ℕ) (is : words ≡ slice_set o.words (entry_place f o.frames frame number) word) where
-  root_stays : root_level words ≡ root_level o.words
+  pub root_stays : root_level words ≡ root_level o.words
   root_stays = ap (λ (z : ℕ). z % 8) (ap (λ (ws : List ℕ). slice_index ws 0) is ∙ root_after_entry f o.frames o.words frame number word)
 
-  tags_stay : (g : ℕ) → g < o.frames → tag words g ≢ 0 → tag o.words g ≢ 0
+  pub tags_stay : (g : ℕ) → g < o.frames → tag words g ≢ 0 → tag o.words g ≢ 0
   tags_stay g lt some z = some (ap (λ (ws : List ℕ). tag ws g) is ∙ tag_after_entry f o.frames o.words frame number word g lt ∙ z)
 
 module _ {f : Layout} (laws : Laws f) {o : Fields} (own : IsOwner f o) (number : ℕ) where

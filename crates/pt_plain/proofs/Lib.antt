@@ -13,5 +13,7 @@ mod Stored
 mod PathCalls
 mod TagCalls
 mod EntryCalls
+mod ClearCalls
+mod UnlinkCalls
 mod RunCalls
 mod NewWords

@@ -180,10 +180,11 @@ module _ {f : Layout} {o : Fields} (own : IsOwner f o) where
     node_is : entry.node ≡ node_at o.words o.path o.level
     node_is = lowest_here entry.node low_here entry.is_lowest
 
+    pub place_is : p ≡ (node_at o.words o.path o.level).position
+    place_is = sym entry.at ∙ ap (λ (x : Node). x.position) node_is
+
     pub level_is : p.level ≡ o.level
-    level_is =
-        ap (λ (q : Position). q.level) (sym entry.at ∙ ap (λ (x : Node). x.position) node_is)
-        ∙ own.levels_are o.level (let e : o.level ≤ o.level = omega arith in e) low_here
+    level_is = ap (λ (q : Position). q.level) place_is ∙ own.levels_are o.level (let e : o.level ≤ o.level = omega arith in e) low_here
 
     pub level_below : o.level < f.levels
     level_below = let top = book.top_high in let e = (shown f o).top_is in let up = low_here in omega arith

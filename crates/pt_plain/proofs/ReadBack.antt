@@ -30,7 +30,7 @@ use Rattle.pt_plain.proofs.Laws.{Laws}
 use Rattle.pt_plain.proofs.Matches.{IsPlain, Matches}
 use Rattle.pt_plain.proofs.Owners.{shown}
 use Rattle.pt_plain.proofs.Paths.{AreTagged, levels_back, nodes_back}
-use Rattle.pt_plain.proofs.Known.{known_spine, known_table}
+use Rattle.pt_plain.proofs.Known.{known_cases, known_spine, known_table}
 
 -- a view that has found busy what isn't free, and found linked what is in its tree
 pub record Noted (o : Fields) (u : View) : Type 0 where
@@ -124,17 +124,12 @@ module _ {f : Layout} (laws : Laws f) {o : Fields} {u : View} (r : Lawful f o.fr
         or_right (is_spine o.levels p && nat_le p.level (root_level o.words)) _ (let some_one : 0 < places p u.tables = a_table in lt-ltb 0 (total (has_table p) (u ∷ [])) (omega arith)),
         inr (among_all (IsOwnTable f u) u.tables (r.books 0 u refl live).tables p a_table).meets,
       ))
-      (λ (a_spine : IsAmong (map spine_position (levels_between (starting_top o.levels) u.top)) p).
-      let t : (k : ℕ) × (starting_top o.levels ≤ k) × (k < starting_top o.levels + (u.top + 1 - starting_top o.levels)) × (p ≡ spine_position k) =
-      among_levels spine_position (u.top + 1 - starting_top o.levels) (starting_top o.levels) p a_spine in
-      let low = t.1 in let up = t.2 in let top = read.2 in
-      let spine : is_spine o.levels p ≡ true =
-      ap (is_spine o.levels) t.3 ∙ and_from (nat_le (starting_top o.levels) t.0) _ (le-leb (starting_top o.levels) t.0 low) refl in
-      let level : p.level ≡ t.0 = ap (λ (q : Position). q.level) t.3 in (
-        or_left (is_spine o.levels p && nat_le p.level (root_level o.words)) _ (and_from (is_spine o.levels p) _ spine (le-leb p.level (root_level o.words) (omega arith))),
-        inl spine,
+      (λ (a_spine : IsTrue (is_spine o.levels p) × (p.level ≤ u.top)).
+      let up = a_spine.1 in let top = read.2 in (
+        or_left (is_spine o.levels p && nat_le p.level (root_level o.words)) _ (and_from (is_spine o.levels p) _ a_spine.0 (le-leb p.level (root_level o.words) (omega arith))),
+        inl a_spine.0,
       ))
-      (among_append p u.tables (map spine_position (levels_between (starting_top o.levels) u.top)) h)
+      (known_cases o.levels u.tables u.top p h)
 
   known_of_w : (p : Position) → IsAmong w.known p → IsTrue (is_in_tree o.levels o.words (u ∷ []) p) × (IsTrue (is_spine w.levels p) ⊎ IsTrue (meets_span w p.base (end_of_table f p)))
   known_of_w p h =

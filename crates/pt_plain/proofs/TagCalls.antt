@@ -44,7 +44,7 @@ some_first [] some e = omega arith
 some_first (x ∷ xs) some e = let w : ⊥ = cc in w
 
 -- a tag that wasn't 0 is written
-tags_before : (words : List ℕ) (frame word : ℕ) → tag words frame ≢ 0 → (g : ℕ) → tag (slice_set words (1 + frame) word) g ≢ 0 → tag words g ≢ 0
+pub tags_before : (words : List ℕ) (frame word : ℕ) → tag words frame ≢ 0 → (g : ℕ) → tag (slice_set words (1 + frame) word) g ≢ 0 → tag words g ≢ 0
 tags_before words frame word old g some = dite (ℕ_discrete g frame) (λ e z. old (sym (ap (tag words) e) ∙ z)) (λ ne z. some (tag_else words frame word g ne ∙ z))
 
 -- What the calls do: a frame is the purse's first, the purse's first frame is prepared, and the prepared one is put back.
@@ -82,7 +82,7 @@ module _ {f : Layout} (laws : Laws f) {o : Fields} (own : IsOwner f o) where
   every = subst (λ (t : View × Aside). HasEveryFrame t.0 → FillsSpace t.0 t.1) (λ i. (sym (span_whole own) i, sym (aside_none own) i))
       (λ all. let c = (holds.counted (whole own)).1 all in let e = (shown f o).frames_are in omega arith)
 
-  purse_length : length v.purse ≡ o.held
+  pub purse_length : length v.purse ≡ o.held
   purse_length = ap length (shown f o).purse_is ∙ own.held_is
 
   pub held_is : length (span_view f o).purse ≡ o.held
@@ -91,7 +91,7 @@ module _ {f : Layout} (laws : Laws f) {o : Fields} (own : IsOwner f o) where
   pub held_few : o.held ≤ o.frames
   held_few = let e = purse_length in let most = holds.few in omega arith
 
-  next_is : first_or v.end v.purse ≡ o.head
+  pub next_is : first_or v.end v.purse ≡ o.head
   next_is = let s = shown f o in (λ i. first_or (s.end_is i) (s.purse_is i)) ∙ own.first_is
 
   -- Take.

@@ -108,6 +108,22 @@ impl<F: Format> Holder<F> for Plain<F> {
         );
     }
 
+    fn clear(&mut self, number: u32) {
+        let frame = self.path[self.level as usize];
+        set_entry::<F>(&mut self.words, self.frames, frame, number, 0);
+    }
+
+    fn unlink(&mut self, number: u32) {
+        let level = self.level;
+        let parent = self.path[level as usize];
+        let linked = entry::<F>(&self.words, self.frames, parent, number);
+        let child = frame_named::<F>(F::address_of(level, linked));
+        set_entry::<F>(&mut self.words, self.frames, parent, number, 0);
+        set_tag(&mut self.words, child, held_word(self.head));
+        self.head = Some(child);
+        self.held += 1;
+    }
+
     fn take(&mut self, frame: u32) -> bool {
         if tag_of(&self.words, frame) != 0 {
             return false;

@@ -358,6 +358,10 @@ pub record IsUnlinked (f : Layout) (tells : Type 0) (number : ℕ) (v w : View) 
   pub known : (p : Position) → IsEntryAt f v p number → RemovesPosition v.known w.known (child_at f p number)
   pub told : tells → SameHistory v w
 
+-- what an unlink finds at the entry: over a lone holder, one of its tables
+abbrev pub UnlinkFinds : Layout → (alone : Type 0) → (number : ℕ) → View → Type 0
+UnlinkFinds f alone number v = alone → (p : Position) → IsEntryAt f v p number → IsAmong v.tables (child_at f p number)
+
 -- a take was won or lost
 abbrev pub Takes : Bool → (tells : Type 0) → (frame : ℕ) → (v w : View) → Type 0
 Takes true tells frame v w = (w.purse ≡ frame ∷ v.purse) × (tells → w.taken ≡ v.taken)

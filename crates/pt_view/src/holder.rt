@@ -9,6 +9,7 @@ ghost use Rattle.pt_view.specs.Views.{Aside, Stays, IsLawfulAtRest};
 ghost use Rattle.pt_view.specs.Calls.{MeetsEntry, Rooted, Went, left};
 ghost use Rattle.pt_view.specs.Calls.{IsPrepared, IsPlaced, IsUnplaced, MayInstall, IsInstalled, InstallFinds};
 ghost use Rattle.pt_view.specs.Calls.{MayWrite, IsWritten, MayWriteRun, IsWrittenRun};
+ghost use Rattle.pt_view.specs.Calls.{MayClear, IsCleared, MayUnlink, IsUnlinked, UnlinkFinds};
 ghost use Rattle.pt_view.specs.Calls.{IsTaken, HasEveryFrame, FillsSpace, FitsSpace};
 
 use pt_format::Format;
@@ -109,6 +110,19 @@ pub trait Holder<F: Format> {
         requires { MayWriteRun F.layout (view self.old) first count word step }
         ensures stays { Stays space aside alone self.old self.new }
         ensures written { IsWrittenRun F.layout tells first count word step (view self.old) (view self.new) };
+
+    /// Clears an entry of the path's last table, at which the word of an own block stands.
+    fn clear(&mut self, number: u32)
+        requires { MayClear F.layout (view self.old) number }
+        ensures stays { Stays space aside alone self.old self.new }
+        ensures cleared { IsCleared F.layout tells number (view self.old) (view self.new) };
+
+    /// Unlinks the table at an entry of the path's last table: its frame is then the first of the purse.
+    fn unlink(&mut self, number: u32)
+        requires { MayUnlink F.layout (view self.old) number }
+        ensures stays { Stays space aside alone self.old self.new }
+        ensures unlinked { IsUnlinked F.layout tells number (view self.old) (view self.new) }
+        ensures found { UnlinkFinds F.layout (alone self.old) number (view self.old) };
 
     /// Tries to take a frame, which is then the first of the purse. False only where it wasn't free.
     fn take(&mut self, frame: u32) -> bool
