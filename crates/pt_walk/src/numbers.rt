@@ -36,7 +36,7 @@ pub(crate) fn is_under_spine<F: Format>(level: u32, page: u64) -> bool
 }
 
 /// The page after the last one under the spine's table of a level; 2^63 where that is more.
-pub(crate) fn spine_end<F: Format>(level: u32) -> u64
+pub fn spine_end<F: Format>(level: u32) -> u64
     requires { level < F.layout.levels }
     ensures { result ≡ min (pages_of_table F.layout level) (2 ^ 63) }
 {

@@ -1,0 +1,55 @@
+-- Tables of a range of pages that no block meets, and what their unlinking does.
+use Rattle.std.specs.Prelude.{◌≡◌, ℕ, ◌+◌, ◌%◌, ◌<◌, nat_lt, ◌&&◌, Bool, false, not, filter, List, ◌++◌, length, None}
+use Rattle.pt_model.specs.declared.position.Position.{Position}
+use Rattle.pt_model.specs.Layout.{Layout, pages_of_table}
+use Rattle.pt_model.specs.Tables.{is_spine}
+use Rattle.pt_model.specs.Sets.{IsAmong, places}
+use Rattle.pt_model.specs.Book.{table_lies_in}
+use Rattle.pt_view.specs.declared.view.View.{View}
+use Rattle.pt_view.specs.Lists.{SameFrames}
+use Rattle.pt_view.specs.Views.{SameRange}
+use Rattle.pt_view.specs.Loads.{AddsAbsences}
+use Rattle.pt_walk.specs.Walks.{IsFree, OwnsAll}
+
+-- a table of a book: off the spine, and at a multiple of its pages
+pub record IsBookTable (f : Layout) (v : View) (q : Position) : Type 0 where
+  pub off_spine : is_spine v.levels q ≡ false
+  pub aligned : q.base % pages_of_table f q.level ≡ 0
+
+-- no piece has a page of a range, and the book's tables are each there once
+pub record IsEmptyRange (f : Layout) (v : View) (first end levels : ℕ) : Type 0 where
+  pub owns : OwnsAll f v
+  pub free : IsFree f v first end
+  pub tables : (q : Position) → IsAmong v.tables q → IsBookTable f v q
+  pub once : (q : Position) → places q v.tables < 2
+  pub levels_are : levels ≡ v.levels
+  pub none : v.prepared ≡ None
+
+-- whether a table lies in a range, and is below a level
+abbrev pub lies_below : Layout → (first end level : ℕ) → Position → Bool
+lies_below f first end level q = nat_lt q.level level && table_lies_in f first end q
+
+-- the book loses the tables that pass a test, the purse gets frames in front, as many over a lone holder as the book
+-- loses tables; the positions known to be linked that don't pass stay known, and nothing else of the view changes
+pub record Unlinks (f : Layout) (tells alone : Type 0) (passes : Position → Bool) (v w : View) : Type 0 where
+  pub range : SameRange v w
+  pub pieces : w.pieces ≡ v.pieces
+  pub top : w.top ≡ v.top
+  pub tables : w.tables ≡ filter (λ q. not (passes q)) v.tables
+  pub path : w.path ≡ v.path
+  pub prepared : w.prepared ≡ v.prepared
+  pub end : w.end ≡ v.end
+  pub busy : SameFrames v.busy w.busy
+  pub known : (q : Position) → IsAmong v.known q → passes q ≡ false → IsAmong w.known q
+  pub purse : (frames : List ℕ) × (w.purse ≡ frames ++ v.purse)
+  pub count : alone → length w.purse + length w.tables ≡ length v.purse + length v.tables
+  pub taken : tells → w.taken ≡ v.taken
+  pub stores : tells → w.stores ≡ v.stores
+  pub absent : tells → AddsAbsences v w
+
+-- of the tables that lie in a range, those below a level, and all
+abbrev pub UnlinksBelow : Layout → (tells alone : Type 0) → (first end level : ℕ) → (v w : View) → Type 0
+UnlinksBelow f tells alone first end level v w = Unlinks f tells alone (lies_below f first end level) v w
+
+abbrev pub UnlinksIn : Layout → (tells alone : Type 0) → (first count : ℕ) → (v w : View) → Type 0
+UnlinksIn f tells alone first count v w = Unlinks f tells alone (table_lies_in f first (first + count)) v w
