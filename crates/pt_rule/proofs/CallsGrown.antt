@@ -1,16 +1,19 @@
 -- The steps of a growth, a store of the bridge, the exchange of the root and, where that was lost, a store of zero,
 -- are what a holder's call of grow says.
 use Rattle.std.proofs.Common.{◌≡◌, ◌≢◌, ℕ, ◌+◌, ◌%◌, List, [], ◌∷◌, sym, refl, ap, ◌∙◌, subst, arith}
-use Rattle.std.specs.Prelude.{None, Some}
+use Rattle.std.specs.Prelude.{None, Option, Some}
 use mathlib.Core.Logic.{dite}
 use native.Mathlib.Decide.{ℕ_discrete}
+use Rattle.pt_model.specs.declared.position.Position.{Position}
 use Rattle.pt_model.specs.Layout.{Layout, input_pages}
 use Rattle.pt_model.specs.Tables.{spine_position}
 use Rattle.pt_model.specs.Words.{root_word}
 use Rattle.pt_view.specs.declared.view.View.{View}
 use Rattle.pt_view.specs.declared.view.Node.{Node}
+use Rattle.pt_view.specs.declared.view.Prepared.{Prepared}
+use Rattle.pt_view.specs.declared.holder.Won.{Won}
 use Rattle.pt_view.specs.declared.holder.Won.TheVariants.{Yes, Met}
-use Rattle.pt_view.specs.Calls.{IsGrown, IsOutgrown, IsRaised, IsRootAt, MayGrow, lowest}
+use Rattle.pt_view.specs.Calls.{Grows, IsGrown, IsOutgrown, IsRaised, IsRootAt, MayGrow, lowest}
 use Rattle.pt_rule.specs.Kinds.{May, RaiseTells, after, bridge, over_top, raise, unbridge, with_spine}
 use Rattle.pt_rule.proofs.CallsRooted.{same_frames, spine_adds}
 use Rattle.pt_rule.proofs.RaiseKept.{raised_lost, raised_won}
@@ -64,17 +67,22 @@ module _ (f : Layout) (n : ℕ) (v : View) (may : MayGrow v) where
     lone_wins a = dite (ℕ_discrete found (root_word may.root may.level)) (λ e. e)
         (λ ne. absurd (let top = told.root.exact (whole a) in let up = told.lost ne in let low = may.reaches in omega arith))
 
-    pub grown : found ≡ root_word may.root may.level → IsGrown f tells alone v Yes topped
-    grown e = record {
+    -- what a growth keeps, whether it was won or lost
+    grown_as : (won : Won) (top : ℕ) (prepared : Option Prepared) (path : List Node) (known : List Position) →
+        (let w : View = record v { top = top; prepared = prepared; path = path; known = known } in Grows f won may.level v w → (alone → won ≡ Yes) → IsGrown f tells alone v won w)
+    grown_as won top prepared path known grows wins = record {
       range = record { frames = refl; levels = refl; first = refl; count = refl };
       pieces = refl;
       tables = refl;
       purse = record { purse = refl; end = refl };
       busy = same_frames v.busy;
-      grows = λ level root. subst (λ (k : ℕ). IsRaised f k v topped) (one_level level root) raised_here;
+      grows = λ level root. subst (λ (k : ℕ). Grows f won k v (record v { top = top; prepared = prepared; path = path; known = known })) (one_level level root) grows;
       told = λ _. record { taken = refl; absent = refl; stores = refl };
-      wins = λ _. refl;
+      wins = wins;
     }
+
+    pub grown : found ≡ root_word may.root may.level → IsGrown f tells alone v Yes topped
+    grown e = grown_as Yes topped.top topped.prepared topped.path topped.known raised_here (λ _. refl)
       where
         raised_here : IsRaised f may.level v topped
         raised_here = record {
@@ -86,16 +94,7 @@ module _ (f : Layout) (n : ℕ) (v : View) (may : MayGrow v) where
         }
 
     pub not_grown : found ≢ root_word may.root may.level → IsGrown f tells alone v Met (outgrown found)
-    not_grown ne = record {
-      range = record { frames = refl; levels = refl; first = refl; count = refl };
-      pieces = refl;
-      tables = refl;
-      purse = record { purse = refl; end = refl };
-      busy = same_frames v.busy;
-      grows = λ level root. subst (λ (k : ℕ). IsOutgrown f k v (outgrown found)) (one_level level root) outgrown_here;
-      told = λ _. record { taken = refl; absent = refl; stores = refl };
-      wins = λ a. absurd (ne (lone_wins a));
-    }
+    not_grown ne = let w : View = outgrown found in grown_as Met w.top w.prepared w.path w.known outgrown_here (λ a. absurd (ne (lone_wins a)))
       where
         outgrown_here : IsOutgrown f may.level v (outgrown found)
         outgrown_here = record {

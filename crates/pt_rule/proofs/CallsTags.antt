@@ -6,7 +6,7 @@ use Rattle.pt_model.specs.Layout.{Layout}
 use Rattle.pt_view.specs.declared.view.View.{View}
 use Rattle.pt_view.specs.declared.view.Prepared.{Prepared}
 use Rattle.pt_view.specs.Lists.{IsIn, AddsFrame}
-use Rattle.pt_view.specs.Calls.{IsPlaced, IsTaken, IsUnplaced}
+use Rattle.pt_view.specs.Calls.{IsPlaced, IsTaken, IsUnplaced, Takes}
 use Rattle.pt_rule.proofs.CallsRooted.{same_frames, same_positions}
 use Rattle.pt_rule.specs.Kinds.{after, place, rest_of, take, unplace}
 use Rattle.pt_view.proofs.Members.{in_cases, in_here, in_more}
@@ -18,30 +18,24 @@ adds_frame xs frame x = (
 )
 
 module _ (tells : Type 0) (v : View) where
+  taken_as : (frame : ℕ) (won : Bool) (purse taken : List ℕ) → (let w : View = record v { purse = purse; busy = frame ∷ v.busy; taken = taken } in
+      Takes won tells frame v w → IsTaken tells frame v won w)
+  taken_as frame won purse taken takes = record {
+    range = record { frames = refl; levels = refl; first = refl; count = refl };
+    book = record { pieces = refl; tables = refl; top = refl };
+    path = refl;
+    prepared = refl;
+    end = refl;
+    takes = takes;
+    busy = adds_frame v.busy frame;
+    known = same_positions v.known;
+    told = λ told. (refl, refl);
+  }
+
   taken_by : (frame : ℕ) (won : Bool) →
       IsTaken tells frame v won (if won then record v { purse = frame ∷ v.purse; busy = frame ∷ v.busy } else record v { busy = frame ∷ v.busy; taken = v.taken ++ frame ∷ [] })
-  taken_by frame true = record {
-    range = record { frames = refl; levels = refl; first = refl; count = refl };
-    book = record { pieces = refl; tables = refl; top = refl };
-    path = refl;
-    prepared = refl;
-    end = refl;
-    takes = (refl, λ told. refl);
-    busy = adds_frame v.busy frame;
-    known = same_positions v.known;
-    told = λ told. (refl, refl);
-  }
-  taken_by frame false = record {
-    range = record { frames = refl; levels = refl; first = refl; count = refl };
-    book = record { pieces = refl; tables = refl; top = refl };
-    path = refl;
-    prepared = refl;
-    end = refl;
-    takes = (refl, λ told. refl);
-    busy = adds_frame v.busy frame;
-    known = same_positions v.known;
-    told = λ told. (refl, refl);
-  }
+  taken_by frame true = taken_as frame true (frame ∷ v.purse) v.taken (refl, λ told. refl)
+  taken_by frame false = taken_as frame false v.purse (v.taken ++ frame ∷ []) (refl, λ told. refl)
 
   -- a take is won where it found the frame free
   pub taken_is : (f : Layout) (frame found : ℕ) → IsTaken tells frame v (found == 0) (after f (take frame) found v)

@@ -19,49 +19,30 @@ use Rattle.pt_rule.specs.Linked.{IsLinked, IsLinkedAt, is_in_tree}
 use Rattle.pt_rule.specs.Lawful.{Lawful, IsOwnPiece, slot_of, has_child}
 use Rattle.pt_model.proofs.Positions.{among_cases, is_same_true, same_position, true_bit}
 use Rattle.pt_view.specs.Views.{spent}
-use Rattle.pt_rule.proofs.StateMapped.{small, at, zeros, four, tree_cases}
+use Rattle.pt_rule.proofs.StateMapped.{small, at, zeros, four, new_view, tree_cases}
 
 abbrev pub two_pages : Block
 two_pages = record { first = 4; log2 = 1; out = 8; prot = Read }
 
 abbrev pub left : View
-left = record {
-  frames = 4;
-  levels = 2;
-  first = 0;
+left = record new_view {
   count = 8;
   pieces = record { block = two_pages; part = 0 } ∷ record { block = two_pages; part = 1 } ∷ [];
   tables = at 0 4 ∷ [];
-  top = 1;
   purse = 2 ∷ [];
-  end = None;
   path = record { frame = 0; position = at 1 0 } ∷ record { frame = 1; position = at 0 4 } ∷ [];
-  prepared = None;
   busy = 3 ∷ [];
   known = at 0 4 ∷ at 1 0 ∷ [];
   taken = 3 ∷ [];
-  absent = [];
-  stores = [];
 }
 
 abbrev pub right : View
-right = record {
-  frames = 4;
-  levels = 2;
+right = record new_view {
   first = 8;
   count = 56;
-  pieces = [];
-  tables = [];
-  top = 1;
   purse = [];
-  end = None;
   path = record { frame = 0; position = at 1 0 } ∷ [];
   prepared = Some (record { frame = 3; position = at 0 8; bridge = None });
-  busy = [];
-  known = [];
-  taken = [];
-  absent = [];
-  stores = [];
 }
 
 abbrev pub views : List View

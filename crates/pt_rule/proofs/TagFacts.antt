@@ -12,6 +12,7 @@ use Rattle.pt_model.specs.Layout.{Layout}
 use Rattle.pt_model.specs.Words.{tag, placed_word}
 use Rattle.pt_view.specs.declared.view.View.{View}
 use Rattle.pt_view.specs.declared.view.Prepared.{Prepared}
+use Rattle.pt_model.specs.Sets.{one_if}
 use Rattle.pt_view.specs.Lists.{times, IsIn}
 use Rattle.pt_rule.specs.Totals.{total, holds, prepares}
 use Rattle.pt_rule.specs.Tags.{held_word, is_held, is_placed}
@@ -84,6 +85,25 @@ pub record IsPreparedBy (n : ℕ) (words : List ℕ) (views : List View) (id : �
   pub unheld : (j : ℕ) (u : View) → get_elem? views j ≡ some u → times g u.purse ≡ 0
   pub others : (j : ℕ) (u : View) → j ≢ id → get_elem? views j ≡ some u → prepares g u ≡ 0
 
+-- a count over the views that is at most one where a test says so, and isn't zero at view `id`: the test says so, and
+-- no other view counts
+pub record IsAlone (count : View → ℕ) (views : List View) (id : ℕ) (v : View) (test : Bool) : Type 0 where
+  pub tells : test ≡ true
+  pub once : count v ≡ 1
+  pub somewhere : 0 < total count views
+  pub others : (j : ℕ) (u : View) → j ≢ id → get_elem? views j ≡ some u → count u ≡ 0
+
+alone_at : (count : View → ℕ) (views : List View) (id : ℕ) (v : View) (test : Bool) → get_elem? views id ≡ some v → total count views ≤ one_if test → 0 < count v →
+    IsAlone count views id v test
+alone_at count views id v test at all here =
+    let most = total_at count views id v at in
+    let bit = bit_le test in record {
+      tells = true_bit test (omega arith);
+      once = omega arith;
+      somewhere = omega arith;
+      others = λ j u ne there. let two = total_two count views j id u v ne there at in omega arith;
+    }
+
 module _ (f : Layout) (n : ℕ) (words : List ℕ) (views : List View) (part : FramesPart f n words views) where
   -- where the tag isn't held, no purse has the frame, and where it isn't placed, no view prepares it
   pub unheld : (g : ℕ) → g < n → is_held (tag words g) ≡ false → (j : ℕ) (u : View) → get_elem? views j ≡ some u → times g u.purse ≡ 0
@@ -99,33 +119,27 @@ module _ (f : Layout) (n : ℕ) (words : List ℕ) (views : List View) (part : F
   pub held_by : (id : ℕ) (v : View) (g : ℕ) → get_elem? views id ≡ some v → IsIn v.purse g → IsHeldBy n words views id v g
   held_by id v g at a =
       let within = purse_within f n words views id v g part at a in
-      let some : 0 < times g v.purse = a in
-      let most : times g v.purse ≤ total (holds g) views = total_at (holds g) views id v at in
-      let all = part.held g within in
-      let bit = bit_le (is_held (tag words g)) in
-      let held = true_bit (is_held (tag words g)) (omega arith) in
+      let equal = part.held g within in
+      let one : IsAlone (holds g) views id v (is_held (tag words g)) = alone_at (holds g) views id v (is_held (tag words g)) at (omega arith) a in
       record {
         within = within;
-        held = held;
-        once = omega arith;
-        others = λ j u ne here. let two : times g u.purse + times g v.purse ≤ total (holds g) views = total_two (holds g) views j id u v ne here at in omega arith;
-        unprepared = unprepared g within (held_unplaced (tag words g) held);
+        held = one.tells;
+        once = one.once;
+        others = one.others;
+        unprepared = unprepared g within (held_unplaced (tag words g) one.tells);
       }
 
   pub prepared_by : (id : ℕ) (v : View) (x : Prepared) → get_elem? views id ≡ some v → v.prepared ≡ Some x → IsPreparedBy n words views id v x.frame
   prepared_by id v x at e =
       let g : ℕ = x.frame in
       let within = prepared_within f n words views id v x part at e in
-      let one = prepares_here views id v x e in
-      let most = total_at (prepares g) views id v at in
-      let all = part.prepared g within in
-      let bit = bit_le (is_placed (tag words g)) in
-      let placed = true_bit (is_placed (tag words g)) (omega arith) in
+      let here = prepares_here views id v x e in
+      let one : IsAlone (prepares g) views id v (is_placed (tag words g)) = alone_at (prepares g) views id v (is_placed (tag words g)) at (part.prepared g within) (omega arith) in
       record {
         within = within;
-        placed = placed;
-        one = one;
-        somewhere = omega arith;
-        unheld = unheld g within (placed_unheld (tag words g) placed);
-        others = λ j u ne here. let two = total_two (prepares g) views j id u v ne here at in omega arith;
+        placed = one.tells;
+        one = one.once;
+        somewhere = one.somewhere;
+        unheld = unheld g within (placed_unheld (tag words g) one.tells);
+        others = one.others;
       }

@@ -4,6 +4,7 @@ use Rattle.pt_model.specs.Layout.{Layout, input_pages}
 use Rattle.pt_model.specs.Tables.{spine_position, starting_top}
 use Rattle.pt_model.specs.Words.{word_count, root_word, tag, placed_word, entry_of}
 use Rattle.pt_view.specs.declared.view.View.{View}
+use Rattle.pt_view.specs.Views.{spent}
 use Rattle.pt_rule.specs.Tags.{held_word}
 
 -- so many numbers from one on
@@ -13,24 +14,7 @@ counting from (suc count) = from ∷ counting (from + 1) count
 
 -- the frames 1 to `hold` are in the purse, and nothing is mapped
 abbrev pub opening_view : Layout → (n l hold : ℕ) → View
-opening_view f n l hold = record {
-  frames = n;
-  levels = l;
-  first = 0;
-  count = input_pages f;
-  pieces = [];
-  tables = [];
-  top = starting_top l;
-  purse = counting 1 hold;
-  end = None;
-  path = [];
-  prepared = None;
-  busy = [];
-  known = [];
-  taken = [];
-  absent = [];
-  stores = [];
-}
+opening_view f n l hold = record spent { frames = n; levels = l; count = input_pages f; top = starting_top l; purse = counting 1 hold }
 
 -- frame 0 is the root's table, the frames of the purse are chained, the others are free, and all entries are zero
 pub record IsNew (f : Layout) (n l hold : ℕ) (words : List ℕ) : Type 0 where
