@@ -25,7 +25,7 @@ use Rattle.pt_rule.proofs.TotalsKept.{total_only}
 use Rattle.pt_view.proofs.Members.{all_map}
 use Rattle.pt_rule.proofs.PartsKept.{SameLinks, links_same, SameTree, tree_same, bridged_to, positions_same, parents_same, path_same}
 use Rattle.pt_rule.proofs.SpansFacts.{covers_none, whole_only}
-use Rattle.pt_rule.proofs.NotesKept.{same_range}
+use Rattle.pt_rule.proofs.FindsKept.{same_range}
 
 pub only : (P : View → Type 0) (v : View) → P v → Each (v ∷ []) P
 only P v h zero u e = subst P (some-injective v u e) h

@@ -11,12 +11,14 @@ use native.Mathlib.Decide.{ℕ_discrete}
 use lib.ListN.{get_elem?}
 use Rattle.atomic_table.proofs.Lists.{at_set, set_here, set_else}
 use Rattle.pt_model.specs.declared.position.Position.{Position}
-use Rattle.pt_model.specs.Layout.{Layout, end_of, pages_of_table}
+use Rattle.pt_model.specs.Layout.{Layout, end_of, input_pages, pages_of_table}
 use Rattle.pt_model.specs.Tables.{end_of_table, is_spine, needed, starting_top}
-use Rattle.pt_model.specs.Words.{root_level}
+use Rattle.pt_model.specs.Words.{root_level, tag}
 use Rattle.pt_view.specs.declared.view.View.{View}
 use Rattle.pt_view.specs.declared.view.Piece.{Piece}
 use Rattle.pt_view.specs.declared.view.Prepared.{Prepared}
+use Rattle.pt_view.specs.declared.view.Node.{Node}
+use Rattle.pt_view.specs.declared.view.Absence.{Absence}
 use Rattle.pt_model.specs.Sets.{one_if, IsAmong, places, IsSorted}
 use Rattle.pt_view.specs.Lists.{IsIn}
 use Rattle.pt_view.specs.Calls.{meets_span}
@@ -67,7 +69,7 @@ pub record Finds (f : Layout) (n l : ℕ) (words : List ℕ) (views : List View)
   pub purse : w.purse ≡ v.purse
   pub end : w.end ≡ v.end
   pub prepared : w.prepared ≡ v.prepared
-  pub busy : w.busy ≡ v.busy
+  pub busy : w.count ≡ input_pages f → (h : ℕ) → h < n → IsIn w.busy h → tag words h ≢ 0
   pub kept : (p : Position) → IsAmong v.tables p → IsAmong w.tables p
   pub found : (p : Position) → IsAmong w.tables p → IsTrue (is_in_tree l words views p)
   pub own : AllByRecursion (IsOwnTable f w) w.tables
@@ -108,6 +110,31 @@ module _ (l : ℕ) (words : List ℕ) (views : List View) (id : ℕ) (v w : View
       (λ (t : nat_lt 0 (total (has_table p) views) ≡ true). kept_there kept (total_some (has_table p) views (ltb-true 0 (total (has_table p) views) t))) (or_cases spine _ e))
 
 module _ (f : Layout) (n l : ℕ) where
+  -- a view with other tables of the tree, another path, and other known positions and absences finds these
+  pub finds_of : (words : List ℕ) (views : List View) (id : ℕ) (v : View) → Lawful f n l words views → get_elem? views id ≡ some v →
+      (tables known : List Position) (path : List Node) (absent : List Absence) → (let w : View = record v { tables = tables; path = path; known = known; absent = absent } in
+      ((p : Position) → IsAmong v.tables p → IsAmong tables p) → ((p : Position) → IsAmong tables p → IsTrue (is_in_tree l words views p)) →
+      AllByRecursion (IsOwnTable f v) tables → IsSorted tables → HasPath f n words views w →
+      ((p : Position) → IsAmong known p → IsTrue (is_in_tree l words views p) × (IsTrue (is_spine v.levels p) ⊎ IsTrue (meets_span v p.base (end_of_table f p)))) →
+      Finds f n l words views v w)
+  finds_of words views id v r at tables known path absent kept found own order way met =
+      let w : View = record v { tables = tables; path = path; known = known; absent = absent } in
+      let range : SameRange v w = record { frames = refl; levels = refl; first = refl; count = refl } in record {
+        range = range;
+        pieces = refl;
+        top = refl;
+        purse = refl;
+        end = refl;
+        prepared = refl;
+        busy = r.busy id v at;
+        kept = kept;
+        found = found;
+        own = all_map (IsOwnTable f v) (IsOwnTable f w) tables (λ q b. table_kept f q v w range b) own;
+        in_order = order;
+        path = way;
+        known = met;
+      }
+
   pub finds : (words : List ℕ) (views : List View) (id : ℕ) (v w : View) → Lawful f n l words views → get_elem? views id ≡ some v → 0 < v.count →
       Finds f n l words views v w → Lawful f n l words (set views id w)
   finds words views id v w r at live met =
@@ -141,8 +168,7 @@ module _ (f : Layout) (n l : ℕ) where
             (path_same f n words words views views' w w links (record { frames = refl; levels = refl; first = refl; count = refl }) refl met.path) r.paths;
         purses = purses_same f n words words views id v w at (λ h lt. refl) met.purse met.end r.frames r.purses;
         sizes = sizes_same f n l words words views id v w at live range refl r.sizes;
-        busy = busy_set f n words words views id v w at (λ h lt z. z)
-            (λ whole h lt a. r.busy id v at (sym range.count ∙ whole) h lt (subst (λ (xs : List ℕ). IsIn xs h) met.busy a)) r.busy;
+        busy = busy_set f n words words views id v w at (λ h lt z. z) met.busy r.busy;
         known = known_set f l words words views id v w at (λ p e. tree.tree p ∙ e) (λ p a. let b = met.known p a in (tree.tree p ∙ b.0, b.1)) r.known;
       }
 

@@ -6,16 +6,15 @@ use Rattle.pt_model.specs.Layout.{Layout, input_pages}
 use Rattle.pt_model.specs.Words.{tag}
 use Rattle.pt_view.specs.declared.view.View.{View}
 use Rattle.pt_view.specs.Lists.{times, IsIn}
-use Rattle.pt_rule.specs.Totals.{prepares}
 use Rattle.pt_rule.specs.Tags.{IsTag, Chained, is_held, is_placed}
 use Rattle.pt_rule.specs.Kinds.{Keeps, free, rest_of, without}
 use Rattle.pt_model.proofs.Places.{tag_same, tag_else}
 use Rattle.pt_rule.proofs.TotalsKept.{each_set}
 use Rattle.pt_model.proofs.Positions.{bit_true}
 use Rattle.pt_view.proofs.Members.{in_cases, in_here, in_more, times_else, times_here}
-use Rattle.pt_rule.proofs.PartsKept.{SameLinks, bridged_to, prepared_moved, prepares_here, chained_else}
+use Rattle.pt_rule.proofs.PartsKept.{SameLinks, chained_else}
 use Rattle.pt_rule.proofs.TagFacts.{IsHeldBy, held_by, held_unplaced, unplaced_unlinked}
-use Rattle.pt_rule.proofs.TagWritten.{tag_links, tag_kept}
+use Rattle.pt_rule.proofs.TagWritten.{owed_unprepared, tag_links, tag_kept}
 use Rattle.pt_rule.proofs.SpansFacts.{whole_only}
 
 -- what is left of a list without a number
@@ -51,18 +50,8 @@ module _ (f : Layout) (n l : ℕ) where
         tag_kept f n l words views id v w g 0 r at live by.within
             (record { range = record { frames = refl; levels = refl; first = refl; count = refl }; book = record { pieces = refl; tables = refl; top = refl }; path = refl; known = refl })
             before after
-            (record {
-              a_tag = IsTag.free refl;
-              held_here = let a = bit_true (is_held (tag words g)) by.held in omega arith;
-              held_else = λ h ne. ap (times h) tail ∙ sym (ap (times h) is ∙ times_else h g rest (λ e. ne (sym e)));
-              prepared_here = let none = by.unprepared id v at in omega arith;
-              prepared_else = λ h ne. refl;
-              unprepared = λ j u ne there. by.unprepared j u there;
-              at = prepared_moved words words' v.prepared (λ y e. tag_else words g 0 y.frame
-                  (λ same. let none = by.unprepared id v at in let one : prepares g v ≡ 1 = subst (λ (z : ℕ). prepares z v ≡ 1) same (prepares_here views id v y e) in omega arith)) (r.frames.at id v at);
-              bridged = bridged_to f n words words' views views' links v.levels v.prepared (r.frames.bridges id v at);
-              bridge = λ h i. refl;
-            })
+            (owed_unprepared f n l words views id v (rest_of v.purse) (without g v.busy) v.end g 0 r at by.unprepared links (IsTag.free refl) (let a = bit_true (is_held (tag words g)) by.held in omega arith)
+            (λ h ne. ap (times h) tail ∙ sym (ap (times h) is ∙ times_else h g rest (λ e. ne (sym e)))))
             (each_set (λ u. Chained words u.end u.purse) (λ u. Chained words' u.end u.purse) views id v w at
             (subst (Chained words' v.end) (sym tail) (chained_else words g 0 v.end rest none_left chain.1))
             (λ j u ne there h. chained_else words g 0 u.end u.purse (by.others j u ne there) h) r.purses.chained) (r.purses.ends id v at)

@@ -17,9 +17,9 @@ mod PathOverBlock
 mod PiecesApart
 -- What keeps the rule part by part, where one view or one tag changes.
 mod PartsKept
+mod FindsKept
 mod NotesKept
 mod MayNote
-mod FindsKept
 mod TagWritten
 mod AloneKept
 -- The law of each kind of step: first those of tags, then loads, then stores and exchanges of entries, then of the root.

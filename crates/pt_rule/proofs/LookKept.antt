@@ -27,11 +27,12 @@ use Rattle.pt_rule.specs.Totals.{total, has_piece}
 use Rattle.pt_rule.specs.Linked.{IsLinkedAt, is_in_tree}
 use Rattle.pt_rule.specs.Lawful.{Lawful, HasPath, IsOnPath, IsChild, IsOwnPiece, IsOwnTable, BeginsOnSpine, Descends, has_child}
 use Rattle.pt_rule.specs.Kinds.{Keeps, EntryTells, zero as tells_zero, own, pointer, look, deeper, first_page, level_at, met, met_word, met_zero}
-use Rattle.pt_rule.proofs.TotalsKept.{total_at}
+use Rattle.pt_rule.proofs.TotalsKept.{own_in_tree, total_at}
 use Rattle.pt_rule.proofs.PositionFacts.{end_of_child}
 use Rattle.pt_rule.proofs.PieceFacts.{word_some}
 use Rattle.pt_rule.proofs.TreeFacts.{IsThere, IsEntry, an_empty, a_piece, a_child, entry_is, own_view, is_position, frame_back, is_address, linked_there, child_there, spine_there, table_there, step_of_piece, whole_tree}
-use Rattle.pt_rule.proofs.FindsKept.{Finds, finds_at, table_kept}
+use Rattle.pt_rule.proofs.FindsKept.{Finds, finds_at, finds_of}
+use Rattle.pt_rule.proofs.NotesKept.{path_noted}
 
 -- Paths.
 
@@ -106,29 +107,17 @@ module _ (f : Layout) (n l : ℕ) (good : IsLayout f) where
       let w : View = entered f v h number p tables in
       let meets = child_meets words views r v frame number p s high in
       let old = r.paths id v at in
-      record {
-        range = record { frames = refl; levels = refl; first = refl; count = refl };
-        pieces = refl;
-        top = refl;
-        purse = refl;
-        end = refl;
-        prepared = refl;
-        busy = refl;
-        kept = kept;
-        found = found;
-        own = all_map (IsOwnTable f v) (IsOwnTable f w) tables (λ q b. table_kept f q v w (record { frames = refl; levels = refl; first = refl; count = refl }) b) all;
-        in_order = order;
-        path = path_more f n words views w v.path (record { frame = frame; position = p }) (record { frame = h; position = child_at f p number }) s.last refl
-            (all_map (IsOnPath f n words views v) (IsOnPath f n words views w) v.path (λ x b. record { at = b.at; near = b.near }) old.nodes) old.begins old.descends
-            (record { at = child; near = inr meets }) (record { number = number; within = s.within; high = high; is = refl });
-        known = λ q b. ⊎_elim
-            (λ (e : q ≡ child_at f p number). (
-              subst (IsThere f n l words views good r) (sym e) (linked_there f n l words views good r h (child_at f p number) child),
-              inr (subst (λ (z : Position). IsTrue (meets_span v z.base (end_of_table f z))) (sym e) meets),
-            ))
-            (λ (old : IsAmong v.known q). r.known id v at q old)
-            (among_cases q (child_at f p number) v.known b);
-      }
+      finds_of f n l words views id v r at tables w.known w.path w.absent kept found all order
+      (path_more f n words views w v.path (record { frame = frame; position = p }) (record { frame = h; position = child_at f p number }) s.last refl
+      (all_map (IsOnPath f n words views v) (IsOnPath f n words views w) v.path (λ x b. record { at = b.at; near = b.near }) old.nodes) old.begins old.descends
+      (record { at = child; near = inr meets }) (record { number = number; within = s.within; high = high; is = refl }))
+      (λ q b. ⊎_elim
+      (λ (e : q ≡ child_at f p number). (
+        subst (IsThere f n l words views good r) (sym e) (linked_there f n l words views good r h (child_at f p number) child),
+        inr (subst (λ (z : Position). IsTrue (meets_span v z.base (end_of_table f z))) (sym e) meets),
+      ))
+      (λ (old : IsAmong v.known q). r.known id v at q old)
+      (among_cases q (child_at f p number) v.known b))
 
   -- the manual's step goes on at a pointer
   pub pointer_facts : (words : List ℕ) (views : List View) (r : Lawful f n l words views) → (frame : ℕ) (p : Position) → IsLinkedAt n words views frame p → 0 < p.level →
@@ -233,26 +222,8 @@ module _ (f : Layout) (n l : ℕ) (good : IsLayout f) (d : WordsDiffer f) (a : S
       stays words views id v r at live absent =
           let w : View = record v { absent = absent } in
           let book = r.books id v at live in
-          let path = r.paths id v at in
-          record {
-            range = record { frames = refl; levels = refl; first = refl; count = refl };
-            pieces = refl;
-            top = refl;
-            purse = refl;
-            end = refl;
-            prepared = refl;
-            busy = refl;
-            kept = λ q b. b;
-            found = λ q b. table_there f n l words views good r id v at q b;
-            own = all_map (IsOwnTable f v) (IsOwnTable f w) v.tables (λ q b. table_kept f q v w (record { frames = refl; levels = refl; first = refl; count = refl }) b) book.tables;
-            in_order = book.in_order;
-            path = record {
-              nodes = all_map (IsOnPath f n words views v) (IsOnPath f n words views w) v.path (λ x b. record { at = b.at; near = b.near }) path.nodes;
-              begins = path.begins;
-              descends = path.descends;
-            };
-            known = r.known id v at;
-          }
+          finds_of f n l words views id v r at v.tables v.known v.path absent (λ q b. b) (own_in_tree l words views id v at) book.tables book.in_order
+          (path_noted f n l words views v w (record { frames = refl; levels = refl; first = refl; count = refl }) refl (r.paths id v at)) (r.known id v at)
 
   pub looked : (frame number : ℕ) → Keeps f n l (look frame number)
   looked frame number words views id v r at live may =

@@ -8,7 +8,6 @@ use Rattle.pt_model.specs.Layout.{Layout}
 use Rattle.pt_model.specs.Words.{tag}
 use Rattle.pt_view.specs.declared.view.View.{View}
 use Rattle.pt_view.specs.Lists.{times, IsIn}
-use Rattle.pt_rule.specs.Totals.{prepares}
 use Rattle.pt_rule.specs.Tags.{held, Chained, first_or, held_word, is_held}
 use Rattle.pt_rule.specs.Lawful.{Lawful}
 use Rattle.pt_rule.specs.Kinds.{Keeps, mark, look_tag, follows}
@@ -16,9 +15,9 @@ use Rattle.pt_model.proofs.Places.{tag_same, tag_else}
 use Rattle.pt_rule.proofs.TotalsKept.{each_set}
 use Rattle.pt_model.proofs.Positions.{bit_true}
 use Rattle.pt_view.proofs.Members.{in_cases, times_append, times_here}
-use Rattle.pt_rule.proofs.PartsKept.{SameLinks, bridged_to, prepared_moved, prepares_here, chained_else, busy_set}
+use Rattle.pt_rule.proofs.PartsKept.{SameLinks, chained_else, busy_set}
 use Rattle.pt_rule.proofs.TagFacts.{IsHeldBy, held_by, held_is, held_unplaced, held_nonzero, tag_still, unplaced_unlinked}
-use Rattle.pt_rule.proofs.TagWritten.{tag_links, tag_kept}
+use Rattle.pt_rule.proofs.TagWritten.{owed_unprepared, tag_links, tag_kept}
 
 not_here : (g x : ℕ) (xs : List ℕ) → times g (x ∷ xs) ≡ 0 → x ≢ g
 not_here g x xs none e = let t = times_here g xs in let z : times g (g ∷ xs) ≡ 0 = subst (λ (y : ℕ). times g (y ∷ xs) ≡ 0) e none in omega arith
@@ -54,18 +53,8 @@ module _ (f : Layout) (n l : ℕ) where
         tag_kept f n l words views id v w g x r at live by.within
             (record { range = record { frames = refl; levels = refl; first = refl; count = refl }; book = record { pieces = refl; tables = refl; top = refl }; path = refl; known = refl })
             before after
-            (record {
-              a_tag = held end refl;
-              held_here = let a = bit_true (is_held (tag words g)) by.held in let b = bit_true (is_held x) (held_is end) in omega arith;
-              held_else = λ h ne. refl;
-              prepared_here = let none = by.unprepared id v at in omega arith;
-              prepared_else = λ h ne. refl;
-              unprepared = λ j u ne there. by.unprepared j u there;
-              at = prepared_moved words words' v.prepared (λ y e. tag_else words g x y.frame
-                  (λ same. let none = by.unprepared id v at in let one : prepares g v ≡ 1 = subst (λ (z : ℕ). prepares z v ≡ 1) same (prepares_here views id v y e) in omega arith)) (r.frames.at id v at);
-              bridged = bridged_to f n words words' views views' links v.levels v.prepared (r.frames.bridges id v at);
-              bridge = λ h i. refl;
-            })
+            (owed_unprepared f n l words views id v v.purse v.busy end g x r at by.unprepared links (held end refl) (let a = bit_true (is_held (tag words g)) by.held in let b = bit_true (is_held x) (held_is end) in omega arith)
+            (λ h ne. refl))
             (each_set (λ u. Chained words u.end u.purse) (λ u. Chained words' u.end u.purse) views id v w at
             (subst (Chained words' end) (sym is) (chained_mark words g v.end end front (omega arith) here (subst (Chained words v.end) is (r.purses.chained id v at))))
             (λ j u ne there h. chained_else words g x u.end u.purse (by.others j u ne there) h) r.purses.chained) may.1

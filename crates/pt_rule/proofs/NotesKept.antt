@@ -1,8 +1,7 @@
 -- Steps that change no word and of one view only its path and what it notes.
-use Rattle.std.proofs.Common.{◌≡◌, ◌≢◌, ◌⊎◌, ℕ, ◌<◌, List, [], ◌∷◌, ◌++◌, set, sym, refl, ap, ◌∙◌, subst, arith}
-use Rattle.std.specs.Prelude.{IsTrue, slice_index, slice_set, Option}
+use Rattle.std.proofs.Common.{◌≡◌, ◌≢◌, ◌⊎◌, ℕ, ◌<◌, List, [], ◌∷◌, ◌++◌, set, sym, refl, subst}
+use Rattle.std.specs.Prelude.{IsTrue, slice_index, slice_set}
 use Rattle.std.specs.List.{AllByRecursion}
-use Rattle.std.proofs.lemmas.List.{set-get_or}
 use mathlib.Core.Option.{some}
 use lib.ListN.{get_elem?}
 use Rattle.pt_model.specs.declared.position.Position.{Position}
@@ -11,19 +10,16 @@ use Rattle.pt_model.specs.Tables.{end_of_table, is_spine}
 use Rattle.pt_model.specs.Words.{tag}
 use Rattle.pt_view.specs.declared.view.View.{View}
 use Rattle.pt_view.specs.declared.view.Node.{Node}
-use Rattle.pt_view.specs.declared.view.Prepared.{Prepared}
-use Rattle.pt_model.specs.Sets.{one_if, IsAmong, places}
+use Rattle.pt_model.specs.Sets.{IsAmong, IsSorted}
 use Rattle.pt_view.specs.Lists.{IsIn}
 use Rattle.pt_view.specs.Calls.{meets_span}
 use Rattle.pt_view.specs.Views.{SameRange, SameBook}
-use Rattle.pt_rule.specs.Totals.{prepares, has_table, is_prepared}
 use Rattle.pt_rule.specs.Linked.{is_in_tree}
-use Rattle.pt_rule.specs.Lawful.{Lawful, HasPath, IsOnPath, BeginsOnSpine, Descends}
-use Rattle.pt_rule.proofs.TotalsKept.{total_same}
-use Rattle.pt_rule.proofs.PartsKept.{SameLinks, links_same, SameTree, tree_same, spans_set, frames_same, positions_same, root_same, parents_same, entries_same, books_set, book_same, path_same, paths_set, purses_same, sizes_same, busy_set, known_set}
-
-pub same_range : (v : View) → SameRange v v
-same_range v = record { frames = refl; levels = refl; first = refl; count = refl }
+use Rattle.pt_rule.specs.Lawful.{Lawful, HasPath, IsOnPath, IsOwnTable, BeginsOnSpine, Descends}
+use Rattle.pt_rule.proofs.TotalsKept.{own_in_tree}
+use Rattle.pt_view.proofs.Members.{all_map}
+use Rattle.pt_rule.proofs.PartsKept.{SameLinks, links_same, path_same}
+use Rattle.pt_rule.proofs.FindsKept.{Finds, finds, finds_at, same_range, table_kept}
 
 pub same_book : (v : View) → SameBook v v
 same_book v = record { pieces = refl; tables = refl; top = refl }
@@ -44,34 +40,35 @@ pub record Notes (f : Layout) (n l : ℕ) (words : List ℕ) (views : List View)
       IsTrue (is_in_tree l words views p) × (IsTrue (is_spine w.levels p) ⊎ IsTrue (meets_span w p.base (end_of_table f p)))
 
 module _ (f : Layout) (n l : ℕ) where
+  -- these are found, with the tables that the view had
+  noted : (words : List ℕ) (views : List View) (id : ℕ) (v w : View) → Lawful f n l words views → get_elem? views id ≡ some v → 0 < v.count →
+      Notes f n l words views v w → Finds f n l words views v w
+  noted words views id v w r at live met =
+      let book = r.books id v at live in
+      let tables : w.tables ≡ v.tables = met.book.tables in record {
+        range = met.range;
+        pieces = met.book.pieces;
+        top = met.book.top;
+        purse = met.purse;
+        end = met.end;
+        prepared = met.prepared;
+        busy = met.busy;
+        kept = λ p. subst (λ (ps : List Position). IsAmong ps p) (sym tables);
+        found = λ p a. own_in_tree l words views id v at p (subst (λ (ps : List Position). IsAmong ps p) tables a);
+        own = subst (AllByRecursion (IsOwnTable f w)) (sym tables) (all_map (IsOwnTable f v) (IsOwnTable f w) v.tables (λ q b. table_kept f q v w met.range b) book.tables);
+        in_order = subst IsSorted (sym tables) book.in_order;
+        path = met.path;
+        known = met.known;
+      }
+
   pub notes : (words : List ℕ) (views : List View) (id : ℕ) (v w : View) → Lawful f n l words views → get_elem? views id ≡ some v → 0 < v.count →
       Notes f n l words views v w → Lawful f n l words (set views id w)
-  notes words views id v w r at live met =
-      let views' : List View = set views id w in
-      let links : SameLinks n words words views views' = links_same n words words views views' (λ h lt. refl)
-      (λ h. total_same (prepares h) views id v w at (ap (λ (o : Option Prepared). one_if (is_prepared h o)) met.prepared)) in
-      let tree : SameTree l words words views views' = tree_same l words words views views' refl (λ p. total_same (has_table p) views id v w at (ap (places p) met.book.tables)) in
-      let top = met.book.top in
-      let most = r.root.greatest id v at in
-      record {
-        spans = spans_set f views id v w at met.range r.spans;
-        frames = frames_same f n words words views id v w at links (λ h lt. refl) met.range.levels met.purse met.prepared (λ h i lt un small. refl) r.frames;
-        positions = positions_same f n l words words views views' links tree r.positions;
-        root = root_same n l words words views id v w at links refl met.range.count (omega arith) (omega arith) r.root;
-        parents = parents_same f n l words words views views' links tree (λ g h p a ne b. refl) r.parents;
-        entries = entries_same f n l words words views id v w at links tree met.book.pieces (λ h i a small. refl) r.entries;
-        books = books_set f views id v w at (λ some. book_same f v w met.range met.book (r.books id v at live)) r.books;
-        paths = paths_set f n words words views id v w at links (path_same f n words words views views' w w links (same_range w) refl met.path) r.paths;
-        purses = purses_same f n words words views id v w at (λ h lt. refl) met.purse met.end r.frames r.purses;
-        sizes = sizes_same f n l words words views id v w at live met.range refl r.sizes;
-        busy = busy_set f n words words views id v w at (λ h lt some. some) met.busy r.busy;
-        known = known_set f l words words views id v w at (λ p e. tree.tree p ∙ e) (λ p a. let b = met.known p a in (tree.tree p ∙ b.0, b.1)) r.known;
-      }
+  notes words views id v w r at live met = finds f n l words views id v w r at live (noted words views id v w r at live met)
 
   -- the same, as a step that puts back the word that it found
   pub notes_at : (words : List ℕ) (views : List View) (id i : ℕ) (v w : View) → Lawful f n l words views → get_elem? views id ≡ some v → 0 < v.count →
       Notes f n l words views v w → Lawful f n l (slice_set words i (slice_index words i)) (set views id w)
-  notes_at words views id i v w r at live met = subst (λ (ws : List ℕ). Lawful f n l ws (set views id w)) (sym (set-get_or words i 0)) (notes words views id v w r at live met)
+  notes_at words views id i v w r at live met = finds_at f n l words views id i v w r at live (noted words views id v w r at live met)
 
   -- a view's own facts, as notes of itself
   pub notes_of : (words : List ℕ) (views : List View) (id : ℕ) (v : View) → Lawful f n l words views → get_elem? views id ≡ some v → Notes f n l words views v v

@@ -19,7 +19,7 @@ use Rattle.pt_rule.specs.Tags.{is_placed}
 use Rattle.pt_rule.specs.Linked.{is_in_tree}
 use Rattle.pt_rule.specs.Lawful.{BooksPart, BusyPart, HasPath, IsBridged, IsPreparedAt, Lawful, PursesPart}
 use Rattle.pt_view.proofs.Members.{all_map}
-use Rattle.pt_rule.proofs.NotesKept.{same_range}
+use Rattle.pt_rule.proofs.FindsKept.{same_range}
 use Rattle.pt_rule.proofs.PartsKept.{SameLinks, SameTree, bridged_to, links_same, parents_same, path_same, positions_same}
 
 -- the pages, frames, pieces and bridges of both are the same together, and a table stands in one where it stood

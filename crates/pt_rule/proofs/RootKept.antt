@@ -5,7 +5,6 @@ use Rattle.std.proofs.lemmas.Bool.{and_from, le-leb}
 use mathlib.Core.Option.{some}
 use lib.ListN.{get_elem?}
 use Rattle.pt_model.proofs.Positions.{among_append, among_levels}
-use Rattle.pt_view.proofs.Members.{all_map}
 use Rattle.pt_model.specs.declared.position.Position.{Position}
 use Rattle.pt_model.specs.Layout.{Layout, input_pages}
 use Rattle.pt_model.specs.Tables.{is_spine, levels_between, spine_position, starting_top}
@@ -13,10 +12,11 @@ use Rattle.pt_model.specs.Words.{root_level}
 use Rattle.pt_format.specs.Laws.{IsLayout}
 use Rattle.pt_view.specs.declared.view.View.{View}
 use Rattle.pt_model.specs.Sets.{IsAmong}
-use Rattle.pt_rule.specs.Lawful.{Lawful, IsOwnTable}
+use Rattle.pt_rule.specs.Lawful.{Lawful}
 use Rattle.pt_rule.specs.Kinds.{Keeps, RootTells, after, load_root}
 use Rattle.pt_rule.proofs.TreeFacts.{IsThere, level_low, ends_in_root, spine_there, table_there, whole_alone}
-use Rattle.pt_rule.proofs.FindsKept.{Finds, finds_at, table_kept}
+use Rattle.pt_rule.proofs.FindsKept.{Finds, finds_at, finds_of}
+use Rattle.pt_rule.proofs.TotalsKept.{own_in_tree}
 
 pub spine_is : (levels level : ℕ) → starting_top levels ≤ level → IsTrue (is_spine levels (spine_position level))
 spine_is levels level low = and_from (nat_le (starting_top levels) level) _ (le-leb (starting_top levels) level low) refl
@@ -47,35 +47,23 @@ module _ (f : Layout) (n l : ℕ) (good : IsLayout f) where
       let levels = (r.sizes.live id v at live).1 in
       let low = book.top_low in
       let most = r.root.greatest id v at in
-      record {
-        range = record { frames = refl; levels = refl; first = refl; count = refl };
-        pieces = refl;
-        top = refl;
-        purse = refl;
-        end = refl;
-        prepared = refl;
-        busy = refl;
-        kept = λ p a. a;
-        found = λ p a. table_there f n l words views good r id v at p a;
-        own = all_map (IsOwnTable f v) (IsOwnTable f w) v.tables (λ p h. table_kept f p v w (record { frames = refl; levels = refl; first = refl; count = refl }) h) book.tables;
-        in_order = book.in_order;
-        path = record {
-          nodes = (record { at = r.root.is_linked; near = inl (spine_is v.levels (root_level words) (omega arith)) }, tt);
-          begins = spine_is v.levels (root_level words) (omega arith);
-          descends = tt;
-        };
-        known = λ p a. ⊎_elim
-            (λ (new : IsAmong (map spine_position (levels_between (starting_top v.levels) (root_level words))) p).
-            let t : (level : ℕ) × (starting_top v.levels ≤ level) × (level < starting_top v.levels + (root_level words + 1 - starting_top v.levels)) × (p ≡ spine_position level) =
-            among_levels spine_position (root_level words + 1 - starting_top v.levels) (starting_top v.levels) p new in
-            let from = t.1 in let to = t.2 in (
-              subst (IsThere f n l words views good r) (sym t.3)
-                  (spine_there f n l words views good r t.0 (subst (λ (k : ℕ). starting_top k ≤ t.0) levels from) (omega arith)),
-              inl (subst (λ (q : Position). IsTrue (is_spine v.levels q)) (sym t.3) (spine_is v.levels t.0 from)),
-            ))
-            (λ (old : IsAmong v.known p). r.known id v at p old)
-            (among_append p (map spine_position (levels_between (starting_top v.levels) (root_level words))) v.known a);
-      }
+      finds_of f n l words views id v r at v.tables w.known w.path w.absent (λ p a. a) (own_in_tree l words views id v at) book.tables book.in_order
+      (record {
+        nodes = (record { at = r.root.is_linked; near = inl (spine_is v.levels (root_level words) (omega arith)) }, tt);
+        begins = spine_is v.levels (root_level words) (omega arith);
+        descends = tt;
+      })
+      (λ p a. ⊎_elim
+      (λ (new : IsAmong (map spine_position (levels_between (starting_top v.levels) (root_level words))) p).
+      let t : (level : ℕ) × (starting_top v.levels ≤ level) × (level < starting_top v.levels + (root_level words + 1 - starting_top v.levels)) × (p ≡ spine_position level) =
+      among_levels spine_position (root_level words + 1 - starting_top v.levels) (starting_top v.levels) p new in
+      let from = t.1 in let to = t.2 in (
+        subst (IsThere f n l words views good r) (sym t.3)
+            (spine_there f n l words views good r t.0 (subst (λ (k : ℕ). starting_top k ≤ t.0) levels from) (omega arith)),
+        inl (subst (λ (q : Position). IsTrue (is_spine v.levels q)) (sym t.3) (spine_is v.levels t.0 from)),
+      ))
+      (λ (old : IsAmong v.known p). r.known id v at p old)
+      (among_append p (map spine_position (levels_between (starting_top v.levels) (root_level words))) v.known a))
 
   pub root_loaded : Keeps f n l load_root
   root_loaded words views id v r at live may = (

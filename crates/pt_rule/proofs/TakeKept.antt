@@ -11,18 +11,18 @@ use Rattle.pt_model.specs.Words.{tag}
 use Rattle.pt_view.specs.declared.view.View.{View}
 use Rattle.pt_model.specs.Sets.{one_if}
 use Rattle.pt_view.specs.Lists.{times, IsIn}
-use Rattle.pt_rule.specs.Totals.{total, holds, prepares}
+use Rattle.pt_rule.specs.Totals.{total, holds}
 use Rattle.pt_rule.specs.Tags.{held, Chained, first_or, held_word, is_held, is_placed}
 use Rattle.pt_rule.specs.Lawful.{Lawful}
 use Rattle.pt_rule.specs.Kinds.{Keeps, take}
-use Rattle.pt_model.proofs.Places.{tag_same, tag_else}
+use Rattle.pt_model.proofs.Places.{tag_same}
 use Rattle.pt_rule.proofs.TotalsKept.{total_at, each_set}
 use Rattle.pt_model.proofs.Positions.{bit_le, bit_true}
 use Rattle.pt_view.proofs.Members.{in_cases, times_else, times_here}
-use Rattle.pt_rule.proofs.PartsKept.{SameLinks, bridged_to, prepared_moved, prepares_here, chained_else, busy_set}
+use Rattle.pt_rule.proofs.PartsKept.{SameLinks, chained_else, busy_set}
 use Rattle.pt_rule.proofs.TagFacts.{IsNowhere, held_is, held_unplaced, held_some, held_nonzero, tag_still, unplaced_unlinked, free_nowhere}
 use Rattle.pt_rule.proofs.NotesKept.{notes_at, path_noted}
-use Rattle.pt_rule.proofs.TagWritten.{tag_links, tag_kept}
+use Rattle.pt_rule.proofs.TagWritten.{owed_unprepared, tag_links, tag_kept}
 use Rattle.pt_rule.proofs.FewFrames.{distinct_few}
 
 module _ (f : Layout) (n l : ℕ) where
@@ -42,18 +42,8 @@ module _ (f : Layout) (n l : ℕ) where
       let after = unplaced_unlinked n words' views' g (held_unplaced (tag words' g) is_now) in
       let links : SameLinks n words words' views views' = tag_links f n l words views id v w g x at before after (λ h ne. refl) in
       tag_kept f n l words views id v w g x r at live within (record { range = record { frames = refl; levels = refl; first = refl; count = refl }; book = record { pieces = refl; tables = refl; top = refl }; path = refl; known = refl }) before after
-      (record {
-        a_tag = held next refl;
-        held_here = let a : one_if (is_held (tag words g)) ≡ 0 = ap (λ (t : ℕ). one_if (is_held t)) free in let b = bit_true (is_held x) (held_is next) in let c = times_here g v.purse in omega arith;
-        held_else = λ h ne. times_else h g v.purse (λ e. ne (sym e));
-        prepared_here = let none = nowhere.unprepared id v at in omega arith;
-        prepared_else = λ h ne. refl;
-        unprepared = λ j u ne there. nowhere.unprepared j u there;
-        at = prepared_moved words words' v.prepared (λ y e. tag_else words g x y.frame
-            (λ same. let none = nowhere.unprepared id v at in let one : prepares g v ≡ 1 = subst (λ (z : ℕ). prepares z v ≡ 1) same (prepares_here views id v y e) in omega arith)) (r.frames.at id v at);
-        bridged = bridged_to f n words words' views views' links v.levels v.prepared (r.frames.bridges id v at);
-        bridge = λ h i. refl;
-      })
+      (owed_unprepared f n l words views id v (g ∷ v.purse) (g ∷ v.busy) v.end g x r at nowhere.unprepared links (held next refl) (let a : one_if (is_held (tag words g)) ≡ 0 = ap (λ (t : ℕ). one_if (is_held t)) free in let b = bit_true (is_held x) (held_is next) in let c = times_here g v.purse in omega arith)
+      (λ h ne. times_else h g v.purse (λ e. ne (sym e))))
       (each_set (λ u. Chained words u.end u.purse) (λ u. Chained words' u.end u.purse) views id v w at
       (here, chained_else words g x v.end v.purse (nowhere.unheld id v at) (r.purses.chained id v at)) (λ j u ne there h. chained_else words g x u.end u.purse (nowhere.unheld j u there) h) r.purses.chained) (r.purses.ends id v at)
       (busy_set f n words words' views id v w at (λ h lt some. tag_still words g x h here (held_nonzero next) some)

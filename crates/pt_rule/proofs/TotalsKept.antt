@@ -1,12 +1,19 @@
 -- Totals over views where one view changes, and how often numbers and positions stand in lists.
 use Rattle.std.proofs.Common.{◌≡◌, ◌≢◌, ℕ, zero, suc, ◌+◌, ◌<◌, ◌≤◌, List, [], ◌∷◌, length, set, sym, refl, ap, subst, ⊎_elim, arith}
+use Rattle.std.specs.Prelude.{IsTrue, nat_le, ◌&&◌}
+use Rattle.std.proofs.lemmas.Bool.{lt-ltb, or_right}
 use mathlib.Core.Option.{some, some-injective, some-ne-none}
 use mathlib.Core.Logic.{dite}
 use native.Mathlib.Decide.{dec_le}
 use lib.ListN.{get_elem?}
 use Rattle.atomic_table.proofs.Lists.{at_set}
+use Rattle.pt_model.specs.declared.position.Position.{Position}
+use Rattle.pt_model.specs.Tables.{is_spine}
+use Rattle.pt_model.specs.Words.{root_level}
+use Rattle.pt_model.specs.Sets.{IsAmong, places}
 use Rattle.pt_view.specs.declared.view.View.{View}
-use Rattle.pt_rule.specs.Totals.{total, Each}
+use Rattle.pt_rule.specs.Linked.{is_in_tree}
+use Rattle.pt_rule.specs.Totals.{total, Each, has_table}
 
 module _ {V : Type 0} (f : V → ℕ) where
   pub total_set : (vs : List V) (j : ℕ) (v w : V) → get_elem? vs j ≡ some v → total f (set vs j w) + f v ≡ total f vs + f w
@@ -67,3 +74,10 @@ each_set P Q views id v w at here there all j u e =
 -- How often a number stands in a list.
 
 -- How often a position stands in a list.
+
+-- a view's table is one of the tree
+pub own_in_tree : (l : ℕ) (words : List ℕ) (views : List View) (j : ℕ) (u : View) → get_elem? views j ≡ some u → (p : Position) → IsAmong u.tables p → IsTrue (is_in_tree l words views p)
+own_in_tree l words views j u at p a =
+    let some_one : 0 < places p u.tables = a in
+    let most = total_at (has_table p) views j u at in
+    or_right (is_spine l p && nat_le p.level (root_level words)) _ (lt-ltb 0 (total (has_table p) views) (omega arith))

@@ -3,7 +3,7 @@
 use Rattle.std.proofs.Common.{◌≡◌, ◌⊎◌, inl, inr, ℕ, zero, suc, ◌+◌, ◌-◌, ◌*◌, ◌/◌, ◌%◌, ◌^◌, ◌<◌, ◌≤◌, List, [], ◌∷◌, refl, ap, sym, ◌∙◌, subst, arith, true, false, ⊎_elim}
 use Rattle.std.specs.Prelude.{IsTrue, nat_lt, nat_le, ◌&&◌, Option, None, Some}
 use Rattle.std.specs.List.{AllByRecursion}
-use Rattle.std.proofs.lemmas.Bool.{and_parts, and_from, or_cases, or_left, or_right, eqb-true, cases_Bool, false≢true, leb-true, ltb-true, lt-ltb, le-leb}
+use Rattle.std.proofs.lemmas.Bool.{and_parts, and_from, or_cases, or_left, eqb-true, cases_Bool, false≢true, leb-true, ltb-true, lt-ltb, le-leb}
 use Rattle.std.proofs.lemmas.Nat.{shl-shr}
 use mathlib.Core.Option.{some, some-injective}
 use mathlib.Core.Logic.{dite}
@@ -27,7 +27,7 @@ use Rattle.pt_rule.specs.Totals.{total, covers, has_table, has_piece, has_word}
 use Rattle.pt_rule.specs.Tags.{IsTag, free, held, placed, held_word, is_placed}
 use Rattle.pt_rule.specs.Linked.{IsLinkedAt, is_in_tree}
 use Rattle.pt_rule.specs.Lawful.{Lawful, FramesPart, IsOwnPiece, IsPreparedAt, has_child}
-use Rattle.pt_rule.proofs.TotalsKept.{total_at, total_two, total_some, total_only}
+use Rattle.pt_rule.proofs.TotalsKept.{own_in_tree, total_at, total_two, total_some, total_only}
 use Rattle.pt_model.proofs.Positions.{bit_false, bit_le, bit_true, is_same_self, same_cases, same_position}
 use Rattle.pt_model.proofs.Quotients.{entry_some}
 use Rattle.pt_view.proofs.Members.{all_map}
@@ -203,10 +203,7 @@ module _ (f : Layout) (n l : ℕ) (words : List ℕ) (views : List View) (good :
       (and_from (is_spine l (spine_position level)) _ (and_from (nat_le (starting_top l) level) _ (le-leb (starting_top l) level low) refl) (le-leb level (root_level words) up))
 
   pub table_there : (j : ℕ) (u : View) → get_elem? views j ≡ some u → (p : Position) → IsAmong u.tables p → IsThere p
-  table_there j u at p a =
-      let some_one : 0 < places p u.tables = a in
-      let most = total_at (has_table p) views j u at in
-      or_right (is_spine l p && nat_le p.level (root_level words)) _ (lt-ltb 0 (total (has_table p) views) (omega arith))
+  table_there = own_in_tree l words views
 
   -- Entries.
 
