@@ -1,6 +1,7 @@
 use Rattle.std.proofs.Common.{ℕ, ◌-◌, ◌<◌, rules}
 use Rattle.pt_view.proofs.Entries.{may_enter}
 use Rattle.pt_view.proofs.Loads.{IsLoad, leaf_loads, load_leaf, load_none, loads_on, none_loads, table_high, table_loads}
+use Rattle.pt_view.proofs.Stays.{stays_on}
 use Rattle.pt_walk.specs.Walks.{HasNone, IsFound, IsGoing, leaf_in}
 use Rattle.pt_walk.proofs.Descent.{empty_none, entered_going, found_on, leaf_found, leaf_is, leaf_nonzero, match_on, none_below}
 use Rattle.pt_walk.proofs.Ranges.{down_here, down_more}
@@ -31,45 +32,30 @@ go_down-requires g t c κs within =
     let high : 0 < c.args.level = table_high l c.in-Entered.is in
     search (rules, go)
 
-pub returns-in-Empty-clause-walked : goal.returns-in-Empty-clause-walked
-returns-in-Empty-clause-walked g t c = none_loads (load g t (goal.at.returns-in-Empty-clause-walked g t c).After-enter) c.in-Empty.is
+pub returns-in-Empty : goal.returns-in-Empty
+returns-in-Empty g t c =
+    let l = load g t (goal.at.returns-in-Empty g t c).After-enter in
+    let owns = c.requires.going.asked.owns in
+    record { stays = c.enter.ensures.stays; walked = none_loads l c.in-Empty.is; down = down_here c.requires.going.over (load_none l c.in-Empty.is).path; found = empty_none g.met.F.Format.lawful_layout owns l c.in-Empty.is }
 
-pub returns-in-Empty-clause-down : goal.returns-in-Empty-clause-down
-returns-in-Empty-clause-down g t c = down_here c.requires.going.over (load_none (load g t (goal.at.returns-in-Empty-clause-down g t c).After-enter) c.in-Empty.is).path
-
-pub returns-in-Empty-clause-found : goal.returns-in-Empty-clause-found
-returns-in-Empty-clause-found g t c =
-    empty_none g.met.F.Format.lawful_layout c.requires.going.asked.owns (load g t (goal.at.returns-in-Empty-clause-found g t c).After-enter) c.in-Empty.is
-
-pub returns-in-Leaf-clause-walked : goal.returns-in-Leaf-clause-walked
-returns-in-Leaf-clause-walked g t c = leaf_loads (load g t (goal.at.returns-in-Leaf-clause-walked g t c).After-enter) c.in-Leaf.is
-
-pub returns-in-Leaf-clause-down : goal.returns-in-Leaf-clause-down
-returns-in-Leaf-clause-down g t c = down_here c.requires.going.over (load_leaf (load g t (goal.at.returns-in-Leaf-clause-down g t c).After-enter) c.in-Leaf.is).path
-
-pub returns-in-Leaf-clause-found : goal.returns-in-Leaf-clause-found
-returns-in-Leaf-clause-found g t c =
+pub returns-in-Leaf : goal.returns-in-Leaf
+returns-in-Leaf g t c =
     let f = g.F.Format.layout in
     let v = g.H.Holder.view c.args.holder.now in
-    let l = load g t (goal.at.returns-in-Leaf-clause-found g t c).After-enter in
+    let l = load g t (goal.at.returns-in-Leaf g t c).After-enter in
     let owns = c.requires.going.asked.owns in
-    leaf_is c.in-Leaf.word (HasNone f v c.args.page c.args.level) (λ word. IsFound f v c.args.page c.args.level word)
-    (leaf_nonzero g.met.F.Format.lawful_layout owns l g.met.F.Format.words_differ c.in-Leaf.is) (leaf_found g.met.F.Format.lawful_layout owns l c.in-Leaf.is)
+    let found = leaf_is c.in-Leaf.word (HasNone f v c.args.page c.args.level) (λ word. IsFound f v c.args.page c.args.level word)
+    (leaf_nonzero g.met.F.Format.lawful_layout owns l g.met.F.Format.words_differ c.in-Leaf.is) (leaf_found g.met.F.Format.lawful_layout owns l c.in-Leaf.is) in
+    record { stays = c.enter.ensures.stays; walked = leaf_loads l c.in-Leaf.is; down = down_here c.requires.going.over (load_leaf l c.in-Leaf.is).path; found = found }
 
-pub returns-in-Entered-clause-walked : goal.returns-in-Entered-clause-walked
-returns-in-Entered-clause-walked g t c =
-    loads_on (table_loads (load g t (goal.at.returns-in-Entered-clause-walked g t c).After-enter) c.in-Entered.is) c.go_down.ensures.walked
-
-pub returns-in-Entered-clause-down : goal.returns-in-Entered-clause-down
-returns-in-Entered-clause-down g t c = down_more (load g t (goal.at.returns-in-Entered-clause-down g t c).After-enter) c.in-Entered.is c.go_down.ensures.down
-
-pub returns-in-Entered-clause-found : goal.returns-in-Entered-clause-found
-returns-in-Entered-clause-found g t c =
+pub returns-in-Entered : goal.returns-in-Entered
+returns-in-Entered g t c =
     let f = g.F.Format.layout in
     let v = g.H.Holder.view c.args.holder.now in
     let w = g.H.Holder.view c.enter.new.self in
-    let l = load g t (goal.at.returns-in-Entered-clause-found g t c).After-enter in
-    match_on (leaf_in c.go_down.result.word) (HasNone f w c.args.page (c.args.level - 1)) (HasNone f v c.args.page c.args.level)
+    let l = load g t (goal.at.returns-in-Entered g t c).After-enter in
+    let d = c.go_down.ensures in
+    let found = match_on (leaf_in c.go_down.result.word) (HasNone f w c.args.page (c.args.level - 1)) (HasNone f v c.args.page c.args.level)
     (λ word. IsFound f w c.args.page c.go_down.result.level word) (λ word. IsFound f v c.args.page c.go_down.result.level word)
-    (none_below g.met.F.Format.lawful_layout c.requires.going.asked.owns l c.in-Entered.is)
-    (λ word. found_on c.enter.ensures.went.book) c.go_down.ensures.found
+    (none_below g.met.F.Format.lawful_layout c.requires.going.asked.owns l c.in-Entered.is) (λ word. found_on c.enter.ensures.went.book) d.found in
+    record { stays = stays_on c.enter.ensures.stays d.stays; walked = loads_on (table_loads l c.in-Entered.is) d.walked; down = down_more l c.in-Entered.is d.down; found = found }

@@ -2,7 +2,8 @@ use Rattle.std.proofs.Common.{◌≡◌, ℕ, ◌+◌, ◌-◌, ◌*◌, ◌/◌
 use Rattle.pt_model.specs.Layout.{pages_of_entry}
 use Rattle.pt_view.specs.declared.view.View.{View}
 use Rattle.pt_view.specs.Loads.{ByLoads}
-use Rattle.pt_view.proofs.Loads.{IsLoad, loads_on, no_table, table_loads, table_owned}
+use Rattle.pt_view.proofs.Loads.{IsLoad, loads_on, no_table, table_high, table_loads, table_owned}
+use Rattle.pt_view.proofs.Stays.{stays_on}
 use Rattle.pt_walk.specs.Walks.{IsOverRange}
 use Rattle.pt_walk.proofs.Descent.{owns_on}
 use Rattle.pt_walk.proofs.Ranges.{clear_below, clear_on, down_here, down_more, owns_more, owns_none, range_below, range_enters, range_from, range_load, stops_here}
@@ -29,26 +30,23 @@ descend-requires g t c κs within =
     let high = c.if-level-lowest.true in
     search (rules, go)
 
-pub returns-in-Entered-clause-walked : goal.returns-in-Entered-clause-walked
-returns-in-Entered-clause-walked g t c =
-    loads_on (table_loads (load g t (goal.at.returns-in-Entered-clause-walked g t c).After-enter) c.in-Entered.is) c.descend.ensures.walked
-
-pub returns-in-Entered-clause-down : goal.returns-in-Entered-clause-down
-returns-in-Entered-clause-down g t c = down_more (load g t (goal.at.returns-in-Entered-clause-down g t c).After-enter) c.in-Entered.is c.descend.ensures.down
-
-pub returns-in-Entered-clause-clear : goal.returns-in-Entered-clause-clear
-returns-in-Entered-clause-clear g t c = λ owns clear.
-    let here = (goal.at.returns-in-Entered-clause-clear g t c).After-enter in
-    let went = c.enter.ensures.went in
-    c.descend.ensures.clear (owns_on g.F.Format.layout went.range went.book owns)
-    (clear_below g.met.F.Format.lawful_layout c.requires.range (one g t here) (load g t here) c.in-Entered.is owns clear)
-
-pub returns-in-Entered-clause-owned : goal.returns-in-Entered-clause-owned
-returns-in-Entered-clause-owned g t c = λ a.
-    let went = c.enter.ensures.went in
-    owns_more g.F.Format.layout c.args.first c.descend.result c.args.level went.range went.book (let high = c.if-level-lowest.true in omega arith)
-    (table_owned (load g t (goal.at.returns-in-Entered-clause-owned g t c).After-enter) c.in-Entered.is a)
-    (c.descend.ensures.owned (c.enter.ensures.stays.still_alone a))
+pub returns-in-Entered : goal.returns-in-Entered
+returns-in-Entered g t c =
+    let f = g.F.Format.layout in
+    let here = (goal.at.returns-in-Entered g t c).After-enter in
+    let l = load g t here in
+    let e = c.enter.ensures in
+    let d = c.descend.ensures in
+    record {
+      stays = stays_on e.stays d.stays;
+      walked = loads_on (table_loads l c.in-Entered.is) d.walked;
+      range = d.range;
+      down = down_more l c.in-Entered.is d.down;
+      lowest = d.lowest;
+      stops = d.stops;
+      owned = λ a. owns_more f c.args.first c.descend.result c.args.level e.went.range e.went.book (table_high l c.in-Entered.is) (table_owned l c.in-Entered.is a) (d.owned (e.stays.still_alone a));
+      clear = λ owns clear. d.clear (owns_on f e.went.range e.went.book owns) (clear_below g.met.F.Format.lawful_layout c.requires.range (one g t here) l c.in-Entered.is owns clear);
+    }
 
 pub returns-in_default : goal.returns-in_default
 returns-in_default g t c =

@@ -37,41 +37,30 @@ pub first_at-leave-requires : goal.first_at-leave-requires
 first_at-leave-requires g t c =
     some_path (load g t (goal.at.first_at-leave-requires g t c).After-enter) c.in-Entered.is c.first_below-page.ensures.walked c.first_below-page.ensures.path
 
-pub first_at-returns-in-Empty-clause-walked : goal.first_at-returns-in-Empty-clause-walked
-first_at-returns-in-Empty-clause-walked g t c = none_loads (load g t (goal.at.first_at-returns-in-Empty-clause-walked g t c).After-enter) c.in-Empty.is
+pub first_at-returns-in-Empty : goal.first_at-returns-in-Empty
+first_at-returns-in-Empty g t c =
+    let l = load g t (goal.at.first_at-returns-in-Empty g t c).After-enter in
+    let r = c.requires in
+    record { stays = c.enter.ensures.stays; walked = none_loads l c.in-Empty.is; path = (load_none l c.in-Empty.is).path; lowest = free_here g.met.F.Format.lawful_layout r.range r.one l c.in-Empty.is r.owns }
 
-pub first_at-returns-in-Empty-clause-path : goal.first_at-returns-in-Empty-clause-path
-first_at-returns-in-Empty-clause-path g t c = (load_none (load g t (goal.at.first_at-returns-in-Empty-clause-path g t c).After-enter) c.in-Empty.is).path
+pub first_at-returns-in-Leaf : goal.first_at-returns-in-Leaf
+first_at-returns-in-Leaf g t c =
+    let l = load g t (goal.at.first_at-returns-in-Leaf g t c).After-enter in
+    let lowest = lowest_here g.met.F.Format.lawful_layout c.requires.range c.requires.one l c.in-Leaf.is c.requires.owns in
+    record { stays = c.enter.ensures.stays; walked = leaf_loads l c.in-Leaf.is; path = (load_leaf l c.in-Leaf.is).path; lowest = λ clear. lowest }
 
-pub first_at-returns-in-Empty-clause-lowest : goal.first_at-returns-in-Empty-clause-lowest
-first_at-returns-in-Empty-clause-lowest g t c = λ clear.
-    free_here g.met.F.Format.lawful_layout c.requires.range c.requires.one (load g t (goal.at.first_at-returns-in-Empty-clause-lowest g t c).After-enter) c.in-Empty.is c.requires.owns clear
-
-pub first_at-returns-in-Leaf-clause-walked : goal.first_at-returns-in-Leaf-clause-walked
-first_at-returns-in-Leaf-clause-walked g t c = leaf_loads (load g t (goal.at.first_at-returns-in-Leaf-clause-walked g t c).After-enter) c.in-Leaf.is
-
-pub first_at-returns-in-Leaf-clause-path : goal.first_at-returns-in-Leaf-clause-path
-first_at-returns-in-Leaf-clause-path g t c = (load_leaf (load g t (goal.at.first_at-returns-in-Leaf-clause-path g t c).After-enter) c.in-Leaf.is).path
-
-pub first_at-returns-in-Leaf-clause-lowest : goal.first_at-returns-in-Leaf-clause-lowest
-first_at-returns-in-Leaf-clause-lowest g t c = λ clear.
-    lowest_here g.met.F.Format.lawful_layout c.requires.range c.requires.one (load g t (goal.at.first_at-returns-in-Leaf-clause-lowest g t c).After-enter) c.in-Leaf.is c.requires.owns
-
-pub first_at-returns-in-Entered-clause-walked : goal.first_at-returns-in-Entered-clause-walked
-first_at-returns-in-Entered-clause-walked g t c =
-    back_loads (load g t (goal.at.first_at-returns-in-Entered-clause-walked g t c).After-enter) c.in-Entered.is
-    c.first_below-page.ensures.walked c.first_below-page.ensures.path c.leave.ensures.left
-
-pub first_at-returns-in-Entered-clause-path : goal.first_at-returns-in-Entered-clause-path
-first_at-returns-in-Entered-clause-path g t c =
-    back_path (load g t (goal.at.first_at-returns-in-Entered-clause-path g t c).After-enter) c.in-Entered.is
-    c.first_below-page.ensures.walked c.first_below-page.ensures.path c.leave.ensures.left
-
-pub first_at-returns-in-Entered-clause-lowest : goal.first_at-returns-in-Entered-clause-lowest
-first_at-returns-in-Entered-clause-lowest g t c = λ clear.
-    let l = load g t (goal.at.first_at-returns-in-Entered-clause-lowest g t c).After-enter in
-    answer_on g.F.Format.layout c.args.first c.args.end c.first_below-page.result c.enter.ensures.went.book (c.first_below-page.ensures.lowest
-    (clear_below g.met.F.Format.lawful_layout c.requires.range c.requires.one l c.in-Entered.is c.requires.owns clear))
+pub first_at-returns-in-Entered : goal.first_at-returns-in-Entered
+first_at-returns-in-Entered g t c =
+    let l = load g t (goal.at.first_at-returns-in-Entered g t c).After-enter in
+    let e = c.enter.ensures in
+    let d = c.first_below-page.ensures in
+    let deeper = clear_below g.met.F.Format.lawful_layout c.requires.range c.requires.one l c.in-Entered.is c.requires.owns in
+    record {
+      stays = stays_on e.stays (stays_on d.stays c.leave.ensures.stays);
+      walked = back_loads l c.in-Entered.is d.walked d.path c.leave.ensures.left;
+      path = back_path l c.in-Entered.is d.walked d.path c.leave.ensures.left;
+      lowest = λ clear. answer_on g.F.Format.layout c.args.first c.args.end c.first_below-page.result e.went.book (d.lowest (deeper clear));
+    }
 
 -- Entry after entry.
 
