@@ -1,6 +1,6 @@
 -- Pages of addresses and of ranges.
-use Rattle.std.proofs.Common.{◌≡◌, ℕ, ◌+◌, ◌-◌, ◌*◌, ◌/◌, ◌%◌, ◌^◌, ◌<◌, ◌≤◌, subst, refl, arith, true, false, Some, None}
-use Rattle.std.specs.Prelude.{nat_le, ◌==◌}
+use Rattle.std.proofs.Common.{◌≡◌, ℕ, ◌+◌, ◌-◌, ◌*◌, ◌/◌, ◌%◌, ◌^◌, ◌<◌, ◌≤◌, ◌∙◌, Bool, ap, sym, subst, refl, arith, true, Some, None}
+use Rattle.std.specs.Prelude.{nat_le, ◌==◌, if◌then◌else◌}
 use Rattle.std.proofs.lemmas.Nat.{shr_below, shl_below, shl_whole, pow_pos, mod_below}
 use Rattle.std.proofs.lemmas.Bool.{le-leb, eq-eqb}
 use Rattle.std.proofs.Math.Pow.{pow_mono}
@@ -44,7 +44,20 @@ start_fits f page l within =
     let whole : f.input - f.granule + f.granule ≤ 64 = omega arith in
     shl_whole page (f.input - f.granule) f.granule 64 within whole
 
--- the range, where all four tests hold, and where the last one fails
+abbrev pub run : (first count : ℕ) → ℕ × ℕ
+run first count = (first, count)
+
+-- the range, where the first byte and the last one have pages: it is one where these have so many between them
+pub range_tested : (f : Layout) (va len last : ℕ) (t : Bool) → 0 < len → last ≡ va + len - 1 → last < 2 ^ 64 → has_page f va ≡ true →
+    has_page f last ≡ true → (page_under f va + len / 2 ^ f.granule == page_under f last + 1) ≡ t →
+    range_at f va len ≡ (if t then Some (run (page_under f va) (len / 2 ^ f.granule)) else None)
+range_tested f va len last t some is fits a b d =
+    let within : nat_le (va + len) (2 ^ 64) ≡ true = le-leb _ _ (omega arith) in
+    let end : has_page f (va + len - 1) ≡ true = ap (has_page f) (sym is) ∙ b in
+    let runs : (page_under f va + len / 2 ^ f.granule == page_under f (va + len - 1) + 1) ≡ t =
+    ap (λ (n : ℕ). page_under f va + len / 2 ^ f.granule == page_under f n + 1) (sym is) ∙ d in
+    rw (a, end, within, runs) refl
+
 pub range_some : (f : Layout) (va len : ℕ) → has_page f va ≡ true → has_page f (va + len - 1) ≡ true → va + len ≤ 2 ^ 64 →
     page_under f va + len / 2 ^ f.granule ≡ page_under f (va + len - 1) + 1 →
     range_at f va len ≡ Some (page_under f va, len / 2 ^ f.granule)
@@ -52,10 +65,3 @@ range_some f va len a b c d =
     let within : nat_le (va + len) (2 ^ 64) ≡ true = le-leb _ _ c in
     let runs : (page_under f va + len / 2 ^ f.granule == page_under f (va + len - 1) + 1) ≡ true = eq-eqb _ _ d in
     rw (a, b, within, runs) refl
-
-pub range_none : (f : Layout) (va len : ℕ) → has_page f va ≡ true → has_page f (va + len - 1) ≡ true → va + len ≤ 2 ^ 64 →
-    (page_under f va + len / 2 ^ f.granule == page_under f (va + len - 1) + 1) ≡ false →
-    range_at f va len ≡ None
-range_none f va len a b c d =
-    let within : nat_le (va + len) (2 ^ 64) ≡ true = le-leb _ _ c in
-    rw (a, b, within, d) refl
