@@ -52,16 +52,16 @@ below_append f level xs ys p = (
       h),
 )
 
--- where nothing is needed
-pub none_counted : (f : Layout) (tells alone : Type 0) (v : View) (needed : List Position) (cap : ℕ) → ((p : Position) → IsAmong needed p → ⊥) → Counted f tells alone v v needed cap 0
-none_counted f tells alone v needed cap none = record {
+-- a walk counts nothing where nothing is needed
+pub nothing_counted : (f : Layout) (tells alone : Type 0) (v w : View) (needed : List Position) (cap : ℕ) → ByLoads tells v w → ((p : Position) → IsAmong needed p → ⊥) → Counted f tells alone v w needed cap 0
+nothing_counted f tells alone v w needed cap walked none = record {
   absent = [];
   count_is = omega arith;
   once = λ p. omega arith;
   missing = λ p h. absurd (omega arith);
   others = λ few p h. absurd (none p h);
   all = λ a few p h. absurd (none p h);
-  told = λ t. ([], sym (append-nil v.absent), λ p h. absurd (omega arith));
+  told = λ t. let a = walked.absent t in (a.facts, a.are, λ p h. absurd (omega arith));
 }
 
 -- the facts of two walks show what each shows
@@ -172,7 +172,7 @@ pub record HasGone (f : Layout) (tells alone : Type 0) (v w : View) (x rest : Ex
 -- at the start
 pub gone_none : (f : Layout) (tells alone : Type 0) (v : View) (x : Extent) (level cap : ℕ) → x.first < x.end → HasGone f tells alone v v x x level cap 0
 gone_none f tells alone v x level cap some =
-    let c : Counted f tells alone v v (below f level []) cap 0 = none_counted f tells alone v (below f level []) cap (λ p h. absurd (omega arith)) in
+    let c : Counted f tells alone v v (below f level []) cap 0 = nothing_counted f tells alone v v (below f level []) cap loads_here (λ p h. absurd (omega arith)) in
     record {
       walked = loads_here;
       path = refl;
@@ -314,9 +314,3 @@ module _ {f : Layout} (good : IsLayout f) {v : View} {x : Extent} {level : ℕ} 
 
     pub inner_to : IsFirstTo f level x inner.end
     inner_to = inr (low, ap (λ (y : Extent). y.end) is)
-
-    pub inner_counted : (tells alone : Type 0) (w : View) (cap count : ℕ) → Counted f tells alone v w (tables_below f inner level) cap count →
-        Counted f tells alone v w (tables_below f (up_to x inner.end) level) cap count
-    inner_counted tells alone w cap count c =
-        subst (λ (y : Extent). Counted f tells alone v w (tables_below f (up_to x y.end) level) cap count) (sym is)
-        (subst (λ (y : Extent). Counted f tells alone v w (tables_below f y level) cap count) is c)

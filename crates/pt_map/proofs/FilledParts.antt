@@ -3,7 +3,7 @@ use Rattle.std.proofs.Common.{◌≡◌, ℕ, zero, suc, ◌+◌, ◌-◌, ◌*�
 use Rattle.std.specs.Prelude.{◌⊎◌, ◌↔◌, Some, map, nat_lt}
 use Rattle.std.specs.List.{range_with_len}
 use Rattle.std.proofs.lemmas.Bool.{cases_Bool, cases_eq, lt-ltb, ltb-true}
-use Rattle.std.proofs.lemmas.List.{map-append}
+use Rattle.std.proofs.lemmas.List.{append-nil, map-append}
 use Rattle.std.proofs.Math.Nat.{div-mul-le_self}
 use Rattle.pt_model.specs.declared.position.Position.{Position}
 use Rattle.pt_model.specs.declared.block.Block.{Block}
@@ -69,13 +69,9 @@ filled_none f tells v = record {
   in_order = λ s. s;
   busy = λ x. ((λ h. h), (λ h. h));
   known = λ p h. h;
-  told = λ t. (refl, sym (append_none v.stores));
+  told = λ t. (refl, sym (append-nil v.stores));
   absent = λ t. absences_here refl;
 }
-  where
-    append_none : {A : Type 0} (xs : List A) → xs ++ [] ≡ xs
-    append_none [] = refl
-    append_none (x ∷ xs) = ap (λ ys. x ∷ ys) (append_none xs)
 
 pub filled_on : (f : Layout) (tells : Type 0) (u v w : View) (xs ys : List Block) (ps qs all : List Position) → ((p : Position) → IsAmong all p ↔ (IsAmong ps p ⊎ IsAmong qs p)) →
     Filled f tells u v xs ps → Filled f tells v w ys qs → Filled f tells u w (xs ++ ys) all

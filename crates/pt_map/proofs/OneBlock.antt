@@ -23,8 +23,8 @@ use Rattle.pt_tile.proofs.UnderEntries.{first_tile}
 use Rattle.pt_tile.specs.Extents.{IsExtent, IsRun, first_size, from, tables_below, tiles, block}
 use Rattle.pt_map.proofs.FillTurns.{may_run, none_below, run_leaves, fills_run}
 use Rattle.pt_map.specs.Stands.{IsBlockOf}
-use Rattle.pt_map.proofs.SurveyFinds.{nothing_counted}
 use Rattle.pt_map.proofs.FramesDrawn.{gathered_none}
+use Rattle.pt_map.proofs.AbsentCounted.{nothing_counted}
 
 distrib : (q m : ℕ) → (q + 1) * m ≡ q * m + m
 distrib q m = grind arith

@@ -13,7 +13,7 @@ use Rattle.pt_model.specs.declared.position.Position.{Position}
 use Rattle.pt_model.specs.declared.block.Block.{Block}
 use Rattle.pt_model.specs.declared.block.Prot.{Prot}
 use Rattle.pt_model.specs.Layout.{Layout, IsLegalBlock, end_of, level_of_size, pages_of_entry, pages_of_table}
-use Rattle.pt_model.specs.Tables.{all_needed, end_of_table, least_top, position_over, needed, is_spine, spine_position}
+use Rattle.pt_model.specs.Tables.{all_needed, end_of_table, least_top, position_over, is_spine, spine_position}
 use Rattle.pt_model.specs.Tiling.{IsGreatestSize, block_at, tiling}
 use Rattle.pt_model.specs.Sets.{IsSorted, IsAmong}
 use Rattle.pt_model.proofs.Positions.{sorted_adds, adds_are}
@@ -24,7 +24,8 @@ use Rattle.pt_tile.specs.declared.extent.Extent.{Extent}
 use Rattle.pt_tile.specs.Runs.{run_blocks}
 use Rattle.pt_view.specs.declared.view.View.{View}
 use Rattle.pt_view.specs.declared.view.Piece.{Piece}
-use Rattle.pt_view.specs.Pieces.{IsOneOf, all_pieces, number_of, pieces_of, words_of, entry_number}
+use Rattle.pt_view.specs.declared.view.Change.TheVariants.{Written}
+use Rattle.pt_view.specs.Pieces.{add_pieces, all_pieces, pieces_of, word_of, words_of, entry_number}
 use Rattle.pt_walk.proofs.Cuts.{pages_few}
 use Rattle.pt_view.specs.Calls.{ArePieces, IsWritten, IsWrittenRun, MayPut, MayWrite, MayWriteRun, off_spine, pieces_at, top_over}
 use Rattle.pt_num.proofs.Bits.{exponent_below}
@@ -33,11 +34,11 @@ use Rattle.pt_map.specs.Filled.{Filled, MayStore, MayStoreRun}
 use Rattle.pt_map.proofs.FilledParts.{may_part}
 use Rattle.pt_tile.proofs.FirstParts.{IsTile, tile_of}
 use Rattle.pt_map.proofs.NeededTables.{needs_any, needs_over, needs_page, over_needed, run_needs}
-use Rattle.pt_map.proofs.PiecesAdded.{piece_at, stands_not}
-use Rattle.pt_tile.proofs.FirstSizes.{outputs_few, size_greatest}
+use Rattle.pt_map.proofs.PiecesAdded.{piece_at}
+use Rattle.pt_tile.proofs.FirstSizes.{size_greatest}
 use Rattle.pt_map.proofs.PathTables.{positions, tables_way, way_tables}
-use Rattle.pt_map.proofs.BlockWords.{first_whole, more_low, number_at, piece_number, size_is, word_is}
-use Rattle.pt_map.proofs.WordsWritten.{IsPut, among_off, block_part, may_leaf, may_put, may_write, put_filled, put_next, put_none, top_reaches}
+use Rattle.pt_map.proofs.BlockWords.{first_whole, more_low, number_at, size_is, word_is}
+use Rattle.pt_map.proofs.WordsWritten.{among_off, block_part, may_leaf, may_put, top_reaches}
 use Rattle.pt_tile.specs.Extents.{IsExtent, IsOneBlock, blocks_of, extent_of, first_size, tables_of, tiles}
 use Rattle.pt_tile.proofs.TileFacts.{one_greatest}
 use Rattle.pt_tile.proofs.Levels.{over_first}
@@ -73,11 +74,6 @@ map_moved g h base i (suc n) same =
     let rest : map g (range_with_len (base + i + 1) n) ≡ map h (range_with_len (i + 1) n) =
     ap (λ (c : ℕ). map g (range_with_len c n)) e ∙ map_moved g h base (i + 1) n (λ j less. same j (omega arith)) in
     (λ k. same i (omega arith) k ∷ rest k)
-
-one_mapped : (g : ℕ → Piece) (n low : ℕ) (x : Piece) → IsOneOf (map g (range_with_len low n)) x → (k : ℕ) × (k < low + n) × (g k ≡ x)
-one_mapped g zero low x h = absurd h
-one_mapped g (suc n) low x (inl e) = (low, omega arith, e)
-one_mapped g (suc n) low x (inr h) = let r : (k : ℕ) × (k < low + 1 + n) × (g k ≡ x) = one_mapped g n (low + 1) x h in (r.0, (let s = r.1 in omega arith), r.2)
 
 -- the pieces of the entries are those of the blocks
 run_pieces : (f : Layout) (b : Block) (m : ℕ) → words_of f b ≡ 2 ^ m → (n q : ℕ) →
@@ -205,21 +201,8 @@ module _ {f : Layout} (good : IsLayout f) {v : View} {b : Block} {count level : 
   pub none_lower : (p : Position) → IsAmong (tables_of f (extent_of count b)) p → p.level < level → ⊥
   none_lower p h low = let high = needs_high p h in omega arith
 
-  -- all of it was written
-  module _ {tells : Type 0} {w : View} (words : ℕ) (all : words ≡ count * 2 ^ bits) (put : IsPut f tells v w (pieces_to b (2 ^ bits) words) (positions v.path)) where
-    pub run_filled : Filled f tells v w (blocks_of count b) (tables_of f (extent_of count b))
-    run_filled =
-        put_filled f tells v w (pieces_to b (2 ^ bits) words) (blocks_of count b) (tables_of f (extent_of count b))
-        (ap (pieces_to b (2 ^ bits)) all ∙ all_entries f b bits count (ap (λ (l : ℕ). 2 ^ (b.log2 - f.index * l)) here)) way_needs put
-
   -- An entry of it.
   module _ (e : ℕ) (less : e < count * 2 ^ bits) where
-    abbrev quotient_of : ℕ
-    quotient_of = e / 2 ^ bits
-
-    abbrev part_in : ℕ
-    part_in = e % 2 ^ bits
-
     -- its block
     abbrev pub block : Block
     block = block_in b (e / 2 ^ bits)
@@ -318,16 +301,8 @@ module _ {f : Layout} (good : IsLayout f) {v : View} {b : Block} {count level : 
     pub number_is : entry_number f level block.first + e % 2 ^ bits ≡ entry_number f level b.first + e
     number_is = sym (number_at good block legal level here (e % 2 ^ bits) r_low) ∙ ap (entry_number f level) page_is ∙ entry_is
 
-    -- the entry at which its piece stands
-    pub stands_at_number : number_of f (piece_in b (2 ^ bits) e) ≡ entry_number f level b.first + e
-    stands_at_number = piece_number good block legal level here (e % 2 ^ bits) r_low ∙ number_is
-
     pub leaf_in : MayBeLeaf f level b.log2 (b.out + e / 2 ^ bits * 2 ^ b.log2) b.prot (e % 2 ^ bits)
     leaf_in = may_leaf good block may_block one here (e % 2 ^ bits) r_low
-
-    -- the output page of its block
-    pub out_few : b.out + e / 2 ^ bits * 2 ^ b.log2 ≤ 2 ^ 52
-    out_few = let output = legal.in_output in let few = outputs_few f good in omega arith
 
   count_some : 0 < count
   count_some = elim (cases_lt 0 count) [
@@ -371,20 +346,20 @@ module _ {f : Layout} (good : IsLayout f) {v : View} {b : Block} {count level : 
   ]
 
   -- The words of all its entries go by a step, from that of its first entry.
-  module _ (number word step : ℕ) (at : number ≡ entry_number f level b.first) (first : word ≡ f.leaf level b.log2 b.out b.prot 0) (by : GoBy f level b.log2 b.out b.prot count step) where
+  module _ (number word step : ℕ) (at : number ≡ entry_number f level b.first) (first : word ≡ f.leaf level b.log2 b.out b.prot 0)
+      (goes : (e : ℕ) → e < count * 2 ^ bits → f.leaf level b.log2 (b.out + e / 2 ^ bits * 2 ^ b.log2) b.prot (e % 2 ^ bits) ≡ f.leaf level b.log2 b.out b.prot 0 + e * step) where
     pub are_pieces : ArePieces f v number (count * 2 ^ bits) word step (piece_in b (2 ^ bits))
     are_pieces = record {
-      word_is = λ e less. word_is good (block e less) (legal e less) level here (e % 2 ^ bits) ∙ by.goes e less ∙ ap (λ (n : ℕ). n + e * step) (sym first);
+      word_is = λ e less. word_is good (block e less) (legal e less) level here (e % 2 ^ bits) ∙ goes e less ∙ ap (λ (n : ℕ). n + e * step) (sym first);
       may = λ e less.
           subst (λ (k : ℕ). MayPut f v k (piece_in b (2 ^ bits) e)) (number_is e less ∙ (let z : entry_number f level b.first + e ≡ number + e = omega arith in z))
-          (may_put good (block e less) (may_block e less) (one e less) here (e % 2 ^ bits) (r_low e less) (put_none f (Unit {0}) v)
-          (λ p h. absurd (let n : 0 < 0 = h in omega arith)) (λ x h. absurd h));
+          (may_put good (block e less) (may_block e less) (one e less) here (e % 2 ^ bits) (r_low e less));
     }
 
-    pub may_run_words : MayWriteRun f v number (count * 2 ^ bits) word step
-    may_run_words = record {
+    pub may_run_words : ((e : ℕ) → e < count * 2 ^ bits → f.leaf level b.log2 b.out b.prot 0 + e * step < 2 ^ 64) → MayWriteRun f v number (count * 2 ^ bits) word step
+    may_run_words within = record {
       some = entries_some;
-      within = λ e less. subst (λ (n : ℕ). n + e * step < 2 ^ 64) (sym first) (by.within e less);
+      within = λ e less. subst (λ (n : ℕ). n + e * step < 2 ^ 64) (sym first) (within e less);
       piece = piece_in b (2 ^ bits);
       are = are_pieces;
     }
@@ -403,51 +378,58 @@ module _ {f : Layout} (good : IsLayout f) {v : View} {b : Block} {count level : 
 
     -- they were written
     module _ {tells : Type 0} {w : View} (written : IsWrittenRun f tells number (count * 2 ^ bits) word step v w) where
-      pub put_run : IsPut f tells v w (pieces_to b (2 ^ bits) (count * 2 ^ bits)) (positions v.path)
-      put_run = record {
-        range = written.range;
-        purse = written.purse;
-        path = written.path;
-        prepared = written.prepared;
-        top = written.top (piece_in b (2 ^ bits)) are_pieces ∙ top_kept (count * 2 ^ bits) (let e : count * 2 ^ bits ≤ count * 2 ^ bits = omega arith in e);
-        pieces = written.pieces (piece_in b (2 ^ bits)) are_pieces;
-        tables = λ p.
-            let m = adds_are (off_spine v.levels v.path) v.tables p in
-            let o = among_off v.levels v.path p in (
-              (λ h. elim (m.0 ((subst (λ (ps : List Position). IsAmong ps p) written.tables h))) [
-                | inl was ↦ inl (was)
-                | inr now ↦ inr (o.0 (now))
-              ]),
-              (λ h. subst (λ (ps : List Position). IsAmong ps p) (sym written.tables) ((m.1 (elim h [
-                | inl was ↦ inl (was)
-                | inr k ↦ inr ((o.1 k))
-              ])))),
-            );
-        in_order = λ s. subst IsSorted (sym written.tables) (sorted_adds (off_spine v.levels v.path) v.tables s);
-        busy = written.busy;
-        known = written.known;
-        told = λ t. ((written.told t).0, written.stores t (piece_in b (2 ^ bits)) are_pieces);
-        absent = λ t. absences_here (written.told t).1;
-      }
+      pub run_filled : Filled f tells v w (blocks_of count b) (tables_of f (extent_of count b))
+      run_filled =
+          let all : pieces_to b (2 ^ bits) (count * 2 ^ bits) ≡ all_pieces f (blocks_of count b) = all_entries f b bits count (ap (λ (l : ℕ). 2 ^ (b.log2 - f.index * l)) here) in
+          record {
+            range = written.range;
+            path = written.path;
+            prepared = written.prepared;
+            end = written.purse.end;
+            top = written.top (piece_in b (2 ^ bits)) are_pieces ∙ top_kept (count * 2 ^ bits) (let e : count * 2 ^ bits ≤ count * 2 ^ bits = omega arith in e);
+            pieces = written.pieces (piece_in b (2 ^ bits)) are_pieces ∙ ap (add_pieces f v.pieces) all;
+            tables = λ p.
+                let m = adds_are (off_spine v.levels v.path) v.tables p in
+                let o = among_off v.levels v.path p in (
+                  (λ h. elim (m.0 (subst (λ (ps : List Position). IsAmong ps p) written.tables h)) [
+                    | inl was ↦ inl was
+                    | inr now ↦ (let n = o.0 now in inr ((way_needs p n.1).0 n.0, n.1))
+                  ]),
+                  (λ h. subst (λ (ps : List Position). IsAmong ps p) (sym written.tables) (m.1 (elim h [
+                    | inl was ↦ inl was
+                    | inr new ↦ inr (o.1 ((way_needs p new.1).1 new.0, new.1))
+                  ]))),
+                );
+            in_order = λ s. subst IsSorted (sym written.tables) (sorted_adds (off_spine v.levels v.path) v.tables s);
+            busy = written.busy;
+            known = λ p h. (written.known p).1 h;
+            told = λ t. ((written.told t).0, written.stores t (piece_in b (2 ^ bits)) are_pieces ∙ ap (λ (xs : List Piece). v.stores ++ map Written xs) all);
+            absent = λ t. absences_here (written.told t).1;
+          }
 
-  -- The entries before it were written.
-  module _ {tells : Type 0} (e : ℕ) (less : e < count * 2 ^ bits) {w : View} {needed : List Position} (put : IsPut f tells v w (pieces_to b (2 ^ bits) e) needed) (few : (p : Position) → IsAmong needed p → IsAmong (positions v.path) p) where
-    none_there : (x : Piece) → IsOneOf (pieces_to b (2 ^ bits) e) x → pieces_at f (position_over f (block e less).first level) (entry_number f level (block e less).first + e % 2 ^ bits) (x ∷ []) ≡ 0
-    none_there x h =
-        let r = one_mapped (piece_in b (2 ^ bits)) e 0 x h in
-        let before : r.0 < e = (let s = r.1 in omega arith) in
-        subst (λ (y : Piece). pieces_at f (position_over f (block e less).first level) (entry_number f level (block e less).first + e % 2 ^ bits) (y ∷ []) ≡ 0) r.2
-        (stands_not f (position_over f (block e less).first level) (entry_number f level (block e less).first + e % 2 ^ bits) (piece_in b (2 ^ bits) r.0)
-        (λ t n. (let there = stands_at_number r.0 (omega arith) in let at = number_is e less in omega arith)))
+-- One word is a run of one, whatever the step.
+module _ {f : Layout} {v : View} {number word : ℕ} where
+  module _ {piece : ℕ → Piece} (are : ArePieces f v number 1 word 0 piece) where
+    one_is : word ≡ word_of f (piece 0)
+    one_is = sym (are.word_is 0 (omega arith) ∙ (let e : word + 0 * 0 ≡ word = omega arith in e))
 
-    pub may_write_entry : (number word : ℕ) → number ≡ entry_number f level b.first → word ≡ f.leaf level b.log2 (b.out + e / 2 ^ bits * 2 ^ b.log2) b.prot (e % 2 ^ bits) → MayWrite f w (number + e) word
-    may_write_entry number word n is =
-        may_write good (block e less) (may_block e less) (one e less) here (e % 2 ^ bits) (r_low e less) put few none_there (number + e) word
-        (number_is e less ∙ (let z : entry_number f level b.first + e ≡ number + e = omega arith in z)) is
+    one_may : MayPut f v number (piece 0)
+    one_may = subst (λ (n : ℕ). MayPut f v n (piece 0)) (let e : number + 0 ≡ number = omega arith in e) (are.may 0 (omega arith))
 
-    pub put_entry : (number word : ℕ) → number ≡ entry_number f level b.first → word ≡ f.leaf level b.log2 (b.out + e / 2 ^ bits * 2 ^ b.log2) b.prot (e % 2 ^ bits) →
-        (u : View) → IsWritten f tells (number + e) word w u → IsPut f tells v u (pieces_to b (2 ^ bits) (e + 1)) (positions v.path)
-    put_entry number word n is u written =
-        subst (λ (xs : List Piece). IsPut f tells v u xs (positions v.path)) (sym (map-range_with_len_more (piece_in b (2 ^ bits)) 0 e e (let z : 0 + e ≡ e = omega arith in z)))
-        (put_next good (block e less) (may_block e less) (one e less) here (e % 2 ^ bits) (r_low e less) put few none_there (number + e) word
-        (number_is e less ∙ (let z : entry_number f level b.first + e ≡ number + e = omega arith in z)) is u written)
+    pub may_write_one : MayWrite f v number word
+    may_write_one = (piece 0, one_is, one_may)
+
+  pub written_one : {tells : Type 0} {w : View} → IsWritten f tells number word v w → IsWrittenRun f tells number 1 word 0 v w
+  written_one written = record {
+    range = written.range;
+    purse = written.purse;
+    path = written.path;
+    prepared = written.prepared;
+    busy = written.busy;
+    known = written.known;
+    tables = written.tables;
+    pieces = λ piece are. written.pieces (piece 0) (one_is are) (one_may are);
+    top = λ piece are. written.top (piece 0) (one_is are) (one_may are);
+    stores = λ t piece are. written.stores t (piece 0) (one_is are) (one_may are);
+    told = written.told;
+  }

@@ -31,18 +31,6 @@ use Rattle.pt_tile.proofs.FirstParts.{cut_part, cut_step, first_to}
 use Rattle.pt_map.proofs.LinkedTables.{next_is}
 use Rattle.pt_tile.proofs.RunTilings.{run_from, run_shifted}
 
--- a walk counts nothing where nothing is needed
-pub nothing_counted : (f : Layout) (tells alone : Type 0) (v w : View) (needed : List Position) (cap : ℕ) → ByLoads tells v w → ((p : Position) → IsAmong needed p → ⊥) → Counted f tells alone v w needed cap 0
-nothing_counted f tells alone v w needed cap walked none = record {
-  absent = [];
-  count_is = omega arith;
-  once = λ p. omega arith;
-  missing = λ p h. absurd (omega arith);
-  others = λ few p h. absurd (none p h);
-  all = λ a few p h. absurd (none p h);
-  told = λ t. let a = walked.absent t in (a.facts, a.are, λ p h. absurd (omega arith));
-}
-
 -- the lowest table needs none below it
 pub none_lowest : (f : Layout) (x : Extent) (level : ℕ) → level ≡ 0 → (p : Position) → IsAmong (tables_below f x level) p → ⊥
 none_lowest f x level e p h = let low = ltb-true p.level level (among_filtered (λ q. nat_lt q.level level) (tables_of f x) p h).1 in omega arith

@@ -2,7 +2,7 @@ use Rattle.std.proofs.Common.{◌≡◌, ℕ, ◌-◌, ◌*◌, ◌%◌, ◌^◌
 use Rattle.std.proofs.Math.Pow.{pow_mono}
 use Rattle.pt_view.specs.declared.view.View.{View}
 use Rattle.pt_view.specs.Calls.{IsWrittenRun, MayWriteRun}
-use Rattle.pt_map.proofs.RunEntries.{entries_few, first_leaf, may_run_words, put_run, run_filled}
+use Rattle.pt_map.proofs.RunEntries.{entries_few, first_leaf, may_run_words, run_filled}
 use Rattle.pt_map.proofs.fill.write_run.Given.{Over}
 use Rattle.pt_map.proofs.fill.write_run.Goals.{After-INDEX}
 use Rattle.pt_map.proofs.fill.write_run.Goals as goal
@@ -41,7 +41,7 @@ write_run-requires g c =
     let b = (goal.at.write_run-requires g c).After-INDEX in
     subst (λ (n : ℕ). MayWriteRun f v c.entry_number.result n c.leaf_word-word.result c.args.run.step) (sym (all_are g b))
     (may_run_words g.met.F.Format.lawful_layout c.requires.may
-    c.entry_number.result c.leaf_word-word.result c.args.run.step c.entry_number.ensures.number c.leaf_word-word.ensures c.requires.words)
+    c.entry_number.result c.leaf_word-word.result c.args.run.step c.entry_number.ensures.number c.leaf_word-word.ensures c.requires.words.goes c.requires.words.within)
 
 pub returns-clause-stored : goal.returns-clause-stored
 returns-clause-stored g c =
@@ -50,10 +50,8 @@ returns-clause-stored g c =
     let v : View = g.H.Holder.view c.args.holder.now in
     let w : View = g.H.Holder.view c.write_run.new.self in
     let all = all_are g (goal.at.returns-clause-stored g c).After-INDEX in
-    let many : ℕ = c.args.run.blocks * 2 ^ (c.args.block.log2 - f.index * c.args.level) in
     record {
       purse = c.write_run.ensures.written.purse.purse;
-      filled = run_filled good c.requires.may many (let e : many ≡ many = omega arith in e)
-          (put_run good c.requires.may c.entry_number.result c.leaf_word-word.result c.args.run.step c.entry_number.ensures.number c.leaf_word-word.ensures c.requires.words
-          (subst (λ (n : ℕ). IsWrittenRun f g.H.Holder.tells c.entry_number.result n c.leaf_word-word.result c.args.run.step v w) all c.write_run.ensures.written));
+      filled = run_filled good c.requires.may c.entry_number.result c.leaf_word-word.result c.args.run.step c.entry_number.ensures.number c.leaf_word-word.ensures c.requires.words.goes
+          (subst (λ (n : ℕ). IsWrittenRun f g.H.Holder.tells c.entry_number.result n c.leaf_word-word.result c.args.run.step v w) all c.write_run.ensures.written);
     }

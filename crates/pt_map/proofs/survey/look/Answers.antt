@@ -1,5 +1,5 @@
-use Rattle.pt_map.proofs.SurveyFinds.{nothing_counted}
 use Rattle.pt_tile.specs.Extents.{tables_below}
+use Rattle.pt_map.proofs.AbsentCounted.{nothing_counted}
 use Rattle.pt_map.proofs.survey.look.Goals as goal
 
 pub first_below-requires-clause-range : goal.first_below-requires-clause-range
