@@ -1,22 +1,20 @@
 -- An extent is gone through from its first page on, and what is absent of what it needs is counted.
-use Rattle.std.proofs.Common.{◌≡◌, ℕ, ◌+◌, ◌-◌, ◌*◌, ◌/◌, ◌%◌, ◌^◌, ◌<◌, ◌≤◌, ◌⊎◌, ◌↔◌, List, [], ◌++◌, refl, ap, sym, subst, ◌∙◌, arith, inl, inr, ⊎_elim, length-append, false}
-use Rattle.std.specs.Prelude.{IsTrue, filter, min, nat_lt, Some}
+use Rattle.std.proofs.Common.{◌≡◌, ℕ, ◌+◌, ◌-◌, ◌*◌, ◌/◌, ◌^◌, ◌<◌, ◌≤◌, ◌⊎◌, ◌↔◌, List, [], ◌++◌, refl, ap, sym, subst, ◌∙◌, arith, inl, inr, ⊎_elim, length-append, false}
+use Rattle.std.specs.Prelude.{IsTrue, filter, min, nat_lt}
 use Rattle.std.proofs.lemmas.Bool.{cases_eq, cases_lt, ltb-true, or_left, or_right}
 use Rattle.std.proofs.lemmas.List.{append_assoc, append-nil}
 use Rattle.std.proofs.lemmas.List.Folds.{list_any-append}
 use Rattle.std.proofs.lemmas.Nat.{le-div, mul-le, pow_pos, shl-shr, shr_split}
 use Rattle.pt_model.specs.declared.block.Block.{Block}
 use Rattle.pt_model.specs.declared.position.Position.{Position}
-use Rattle.pt_model.specs.Layout.{IsLegal, Layout, pages_of_entry, pages_of_table}
+use Rattle.pt_model.specs.Layout.{Layout, pages_of_entry}
 use Rattle.pt_model.specs.Tables.{all_needed, is_spine}
 use Rattle.pt_model.specs.Tiling.{tiling}
 use Rattle.pt_format.specs.Laws.{IsLayout}
 use Rattle.pt_tile.specs.Runs.{run_blocks}
 use Rattle.pt_view.specs.declared.view.View.{View}
-use Rattle.pt_view.specs.declared.view.Node.{Node}
 use Rattle.pt_view.specs.declared.view.Absence.{Absence}
 use Rattle.pt_model.specs.Sets.{IsAmong, places}
-use Rattle.pt_view.specs.Calls.{lowest}
 use Rattle.pt_walk.specs.Walks.{IsClear}
 use Rattle.pt_view.specs.Loads.{ByLoads}
 use Rattle.pt_view.proofs.Loads.{loads_on, loads_here}
@@ -30,8 +28,6 @@ use Rattle.pt_tile.proofs.UnderEntries.{split_tiles, under_part}
 use Rattle.pt_map.specs.Stands.{IsEntryExtent, IsExtentAt, IsOwnTable}
 use Rattle.pt_tile.specs.Extents.{IsExtent, IsFirstTo, IsOneBlock, IsRun, first_size, tables_below, tables_of, tiles, under_entry, up_to, from}
 use Rattle.pt_model.proofs.Positions.{among_filtered, among_passes, places_append, among_append, among_left, among_right}
-use Rattle.pt_map.proofs.RunEntries.{one}
-use Rattle.pt_map.specs.Answers.{unknown}
 use Rattle.pt_map.proofs.StandAfter.{at_moves, keeps_here, loads_keep}
 
 -- the positions below a level that blocks need

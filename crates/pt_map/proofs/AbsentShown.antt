@@ -1,7 +1,6 @@
 -- What the load of an entry shows to be absent, of the positions that a part under it needs.
-use Rattle.std.proofs.Common.{append_assoc, ◌≡◌, ℕ, ◌+◌, ◌-◌, ◌*◌, ◌/◌, ◌<◌, ◌≤◌, ◌⊎◌, List, [], ◌∷◌, ◌++◌, length, Bool, true, false, refl, ap, sym, subst, ◌∙◌, arith, inl, inr, ⊎_elim, length-append}
-use Rattle.std.specs.Prelude.{IsTrue, ◌==◌, min, nat_le, nat_lt, ◌&&◌, Some, if◌then◌else◌}
-use Rattle.std.proofs.lemmas.List.{append-nil}
+use Rattle.std.proofs.Common.{append_assoc, ◌≡◌, ℕ, ◌+◌, ◌-◌, ◌*◌, ◌/◌, ◌<◌, ◌≤◌, ◌⊎◌, List, [], ◌∷◌, ◌++◌, length, Bool, true, false, refl, ap, sym, subst, ◌∙◌, arith, inl, inr, ⊎_elim}
+use Rattle.std.specs.Prelude.{IsTrue, ◌==◌, min, nat_le, nat_lt, ◌&&◌, if◌then◌else◌}
 use Rattle.std.proofs.lemmas.Bool.{eqb-true, false_from_ne_true, and_from, and_parts, cases_eq, cases_lt, false≢true, le-leb, leb-true, lt-ltb, ltb-true, or_left}
 use Rattle.std.proofs.lemmas.Nat.{pow_pos}
 use Rattle.pt_model.specs.declared.position.Position.{Position}
@@ -15,20 +14,17 @@ use Rattle.pt_view.specs.declared.view.Absence.TheVariants.{Zero}
 use Rattle.pt_view.specs.declared.holder.Seen.{Seen}
 use Rattle.pt_view.specs.declared.holder.Seen.TheVariants.{Empty, Leaf, Entered}
 use Rattle.pt_model.specs.Sets.{IsAmong, SamePositions}
-use Rattle.pt_view.specs.Views.{SameHistory}
-use Rattle.pt_view.specs.Calls.{IsEntryAt, IsVacant, Looked, MeetsEntry, Went, zero as looked_zero, leaf as looked_leaf, table as looked_table, entry_first, is_under, left, lowest, all_but_last}
-use Rattle.pt_view.specs.Loads.{AddsAbsences, ByLoads}
+use Rattle.pt_view.specs.Calls.{IsVacant, Looked, Went, zero as looked_zero, leaf as looked_leaf, table as looked_table, entry_first, is_under, left}
+use Rattle.pt_view.specs.Loads.{ByLoads}
 use Rattle.pt_view.specs.Pieces.{entry_number}
-use Rattle.pt_view.proofs.Loads.{loads_left, loads_on, IsLoad, load_table, table_loads, table_owned, table_path}
-use Rattle.pt_view.proofs.Paths.{front_snoc, lowest_snoc}
-use Rattle.pt_view.proofs.Entries.{child_is, entry_first_is, entry_meets, number_within, at_entry}
+use Rattle.pt_view.proofs.Loads.{IsLoad, load_table, table_loads, table_owned, table_path}
+use Rattle.pt_view.proofs.Entries.{child_is, entry_first_is, at_entry}
 use Rattle.pt_model.proofs.Quotients.{entry_is_table}
 use Rattle.pt_tile.specs.declared.extent.Extent.{Extent}
 use Rattle.pt_map.specs.Absent.{Counted, shows}
 use Rattle.pt_map.proofs.NeededTables.{LiesUnder, below_under, needs_over, needs_sorted}
 use Rattle.pt_map.specs.Stands.{IsEntryExtent, IsExtentAt, IsOwnTable}
 use Rattle.pt_tile.specs.Extents.{tables_below, tables_of, tiles}
-use Rattle.pt_map.specs.Answers.{unknown}
 use Rattle.pt_map.proofs.StandAfter.{at_inside, loads_keep}
 use Rattle.pt_map.proofs.AbsentCounted.{shown_right}
 

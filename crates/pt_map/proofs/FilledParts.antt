@@ -1,6 +1,6 @@
 -- Parts of an extent are filled one after the other, and each under an entry from the table below.
 use Rattle.std.proofs.Common.{◌≡◌, ℕ, zero, suc, ◌+◌, ◌-◌, ◌*◌, ◌/◌, ◌<◌, ◌≤◌, List, [], ◌∷◌, ◌++◌, length, true, false, inl, inr, refl, ap, sym, ◌∙◌, subst, arith, append_assoc, length-append}
-use Rattle.std.specs.Prelude.{◌⊎◌, ◌↔◌, Some, map, nat_lt}
+use Rattle.std.specs.Prelude.{◌⊎◌, ◌↔◌, map, nat_lt}
 use Rattle.std.specs.List.{range_with_len}
 use Rattle.std.proofs.lemmas.Bool.{cases_Bool, cases_eq, lt-ltb, ltb-true}
 use Rattle.std.proofs.lemmas.List.{append-nil, map-append}
@@ -21,10 +21,9 @@ use Rattle.pt_view.specs.declared.view.Change.TheVariants.{Written}
 use Rattle.pt_view.specs.Pieces.{IsOneOf, add_pieces, all_pieces, pieces_of, words_of, entry_number}
 use Rattle.pt_view.proofs.Stays.{range_on}
 use Rattle.pt_view.proofs.Loads.{absences_on, absences_here}
-use Rattle.pt_view.proofs.Paths.{front_snoc, lowest_snoc}
+use Rattle.pt_view.proofs.Paths.{front_snoc}
 use Rattle.pt_view.proofs.Members.{all_pieces_append}
-use Rattle.pt_view.specs.Calls.{left, lowest, pieces_at, with_table, all_but_last}
-use Rattle.pt_walk.specs.Walks.{IsWayDown}
+use Rattle.pt_view.specs.Calls.{left, pieces_at, with_table, all_but_last}
 use Rattle.pt_tile.specs.declared.extent.Extent.{Extent}
 use Rattle.pt_map.specs.Filled.{Filled, HasNoPiece, HasRoom, IsDeeper, IsTableIn, MayStore, MayGoInto, next_table}
 use Rattle.pt_tile.proofs.FirstParts.{block_left, block_right, cut_part, cut_step, first_block, first_from, first_level, first_split, first_to, low_after, rest_part, tile_of}

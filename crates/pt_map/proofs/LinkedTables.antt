@@ -1,8 +1,7 @@
 -- The way to a page goes on into the table under an entry, which is linked where it is absent.
-use Rattle.std.proofs.Common.{◌≡◌, ℕ, ◌+◌, ◌-◌, ◌*◌, ◌/◌, ◌%◌, ◌^◌, ◌<◌, ◌≤◌, List, [], ◌∷◌, ◌++◌, length, min, Bool, true, false, inl, inr, refl, ap, sym, ◌∙◌, subst, arith}
-use Rattle.std.specs.Prelude.{IsTrue, Some, None, ◌⊎◌, ◌&&◌, nat_le, nat_lt}
-use Rattle.std.proofs.lemmas.Bool.{and_from, cases_Bool, cases_lt, false≢true, le-leb, lt-ltb}
-use Rattle.std.proofs.lemmas.List.{append-nil}
+use Rattle.std.proofs.Common.{◌≡◌, ℕ, ◌+◌, ◌-◌, ◌*◌, ◌/◌, ◌%◌, ◌^◌, ◌<◌, ◌≤◌, List, [], ◌∷◌, ◌++◌, length, min, true, inl, inr, refl, ap, sym, ◌∙◌, subst, arith}
+use Rattle.std.specs.Prelude.{Some, None, ◌⊎◌, ◌&&◌, nat_le, nat_lt}
+use Rattle.std.proofs.lemmas.Bool.{and_from, cases_lt, false≢true, le-leb, lt-ltb}
 use Rattle.std.proofs.lemmas.Nat.{mod_low, pow_pos}
 use Rattle.std.proofs.Math.Nat.{div-mul-le_self, div-eq_of_lt}
 use Rattle.std.proofs.Math.Pow.{pow_mono}
@@ -21,8 +20,8 @@ use Rattle.pt_view.specs.declared.holder.Won.TheVariants.{Yes, Met}
 use Rattle.pt_model.specs.Sets.{AddsPositions, IsAmong, SamePositions}
 use Rattle.pt_view.specs.Lists.{SameFrames}
 use Rattle.pt_view.specs.Views.{SameBook, SameHistory, SameRange}
-use Rattle.pt_view.specs.Calls.{IsEntryAt, IsInstalled, IsPlaced, IsUnplaced, MayInstall, MeetsEntry, Prepares, Went, is_under, lowest, pieces_at, with_table}
-use Rattle.pt_view.specs.Loads.{AddsAbsences, IsInSpan}
+use Rattle.pt_view.specs.Calls.{IsEntryAt, IsInstalled, IsPlaced, IsUnplaced, MayInstall, Prepares, Went, is_under, lowest, pieces_at, with_table}
+use Rattle.pt_view.specs.Loads.{IsInSpan}
 use Rattle.pt_view.specs.Pieces.{entry_number}
 use Rattle.pt_view.proofs.Stays.{range_on}
 use Rattle.pt_view.proofs.Loads.{IsLoad, absences_here, absences_on, load_leaf, load_none, load_table, table_path}

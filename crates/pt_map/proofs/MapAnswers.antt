@@ -1,11 +1,11 @@
 -- A map from its start to its end: what its steps show of its answer.
 use Rattle.std.proofs.Common.{◌≡◌, ℕ, ◌+◌, ◌-◌, ◌≤◌, arith, List, [], ◌++◌, refl, ap, sym, subst, ◌∙◌}
-use Rattle.std.specs.Prelude.{Option, length, Result, Ok, Err}
+use Rattle.std.specs.Prelude.{length, Result, Ok, Err}
 use Rattle.std.proofs.lemmas.List.{append-nil}
 use Rattle.pt_model.specs.declared.block.Block.{Block}
 use Rattle.pt_model.specs.declared.block.Prot.{Prot}
 use Rattle.pt_model.specs.Layout.{Layout}
-use Rattle.pt_model.specs.Book.{Book, MapRefusal, map_refusal}
+use Rattle.pt_model.specs.Book.{map_refusal}
 use Rattle.pt_model.specs.Tables.{levels_between, starting_top}
 use Rattle.pt_format.specs.Laws.{IsLayout}
 use Rattle.pt_tile.specs.declared.extent.Extent.{Extent}

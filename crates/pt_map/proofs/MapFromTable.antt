@@ -1,7 +1,7 @@
 -- The steps of a map from a table on down, taken together: the look, the draw and the writing.
 use Rattle.std.proofs.Common.{◌≡◌, ℕ, ◌+◌, ◌*◌, ◌/◌, ◌%◌, ◌^◌, ◌<◌, ◌≤◌, List, [], ◌∷◌, ◌++◌, Bool, false, inl, inr, refl, ap, sym, subst, ◌∙◌, arith, append_assoc}
 use Rattle.std.specs.Prelude.{IsTrue, ◌&&◌, ◌==◌, length, map}
-use Rattle.std.proofs.lemmas.Bool.{cases_Bool, cases_lt, false≢true, or_cases, or_left, or_right}
+use Rattle.std.proofs.lemmas.Bool.{cases_Bool, cases_lt}
 use Rattle.std.proofs.lemmas.List.{append-nil}
 use Rattle.std.proofs.lemmas.Nat.{mul-le, shr_split}
 use Rattle.std.proofs.Math.Nat.{div-mul-le_self, mul-le-mul_left}
@@ -21,7 +21,6 @@ use Rattle.pt_view.specs.Lists.{IsIn}
 use Rattle.pt_view.specs.Pieces.{IsOneOf, add_pieces, all_pieces, number_of, table_of, entry_number}
 use Rattle.pt_view.specs.Loads.{AddsAbsences, ByLoads}
 use Rattle.pt_view.proofs.Stays.{book_on, range_on}
-use Rattle.pt_view.proofs.Loads.{absences_on}
 use Rattle.pt_view.proofs.Pieces.{has_page_here}
 use Rattle.pt_walk.proofs.Descent.{own_piece}
 use Rattle.pt_view.specs.Calls.{lowest, pieces_at}
@@ -30,7 +29,7 @@ use Rattle.pt_walk.specs.Walks.{IsFree, IsLowest, OwnsAll}
 use Rattle.pt_tile.specs.declared.extent.Extent.{Extent}
 use Rattle.pt_map.specs.declared.refused.MapRefused.{MapRefused}
 use Rattle.pt_map.specs.Absent.{Counted, is_shown}
-use Rattle.pt_map.specs.Answers.{FindsEach, IsRefused, lacking}
+use Rattle.pt_map.specs.Answers.{FindsEach, IsRefused}
 use Rattle.pt_map.specs.Filled.{HasNoPiece, MayStore, Fills, MayFill, HasRoom}
 use Rattle.pt_map.specs.Requests.{Gathered, IsLackOf, LacksFrames, MappedBelow, MayMapBelow, HasFrames, RefusedBelow}
 use Rattle.pt_map.proofs.TablesAfter.{no_table_in}

@@ -1,11 +1,11 @@
 -- What a map answers, from what it did below the table that is over all of its part.
 use Rattle.std.proofs.Common.{◌≡◌, ◌⊎◌, ◌↔◌, ℕ, ◌+◌, ◌-◌, ◌<◌, ◌≤◌, List, [], ◌++◌, false, inl, inr, refl, ap, sym, subst, ◌∙◌, arith, append_assoc}
-use Rattle.std.specs.Prelude.{IsTrue, Option, Some, None, length, map, min, option_map}
+use Rattle.std.specs.Prelude.{IsTrue, Some, None, length, map, min, option_map}
 use Rattle.std.proofs.lemmas.Bool.{cases_lt}
 use Rattle.pt_model.specs.declared.block.Block.{Block}
 use Rattle.pt_model.specs.declared.position.Position.{Position}
 use Rattle.pt_model.specs.Layout.{Layout}
-use Rattle.pt_model.specs.Book.{IsLawful, MapRefusal, Occupied, lowest_mapped}
+use Rattle.pt_model.specs.Book.{IsLawful, Occupied, lowest_mapped}
 use Rattle.pt_model.specs.Pages.{byte_at}
 use Rattle.pt_model.specs.Sets.{IsSorted, IsAmong, places}
 use Rattle.pt_model.specs.Tables.{end_of_table, is_spine, least_top, position_over, starting_top, levels_between}
@@ -33,7 +33,7 @@ use Rattle.pt_map.proofs.BlocksAdded.{Apart, adds_pieces, in_order_from}
 use Rattle.pt_map.proofs.FirstMapped.{first_mapped, free_apart, none_mapped}
 use Rattle.pt_map.proofs.LackingTables.{absent_all, absent_few, absent_most, absent_shown, tables_more}
 use Rattle.pt_map.proofs.TablesAfter.{full_after, tables_after}
-use Rattle.pt_tile.specs.Extents.{IsExtent, from, tables_below, tables_of, tiles}
+use Rattle.pt_tile.specs.Extents.{IsExtent, tables_below, tables_of, tiles}
 use Rattle.pt_map.specs.Stands.{IsOwnTable}
 use Rattle.pt_tile.proofs.FirstSizes.{extent_tiling}
 use Rattle.pt_map.specs.declared.refused.MapRefused.TheVariants as refused

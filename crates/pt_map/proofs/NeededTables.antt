@@ -15,7 +15,7 @@ use Rattle.pt_model.specs.Tables.{add_positions, all_needed, end_of_table, least
 use Rattle.pt_model.specs.Tiling.{IsTiling, block_at}
 use Rattle.pt_model.specs.Sets.{IsAmong, IsSorted}
 use Rattle.pt_model.proofs.Positions.{among_filtered, among_passes, same_members, sorted_adds, sorted_filter, sorted_levels, among_none, adds_are, among_levels, levels_among, among_append, among_left}
-use Rattle.pt_model.proofs.TilingFacts.{tiling_first, tiling_is}
+use Rattle.pt_model.proofs.TilingFacts.{tiling_first}
 use Rattle.pt_model.proofs.Tops.{above_top, power_mono, reaches_top, top_below, top_low}
 use Rattle.pt_format.specs.Laws.{IsLayout}
 use Rattle.pt_tile.proofs.Levels.{in_levels, levels_in, over_first, size_low}

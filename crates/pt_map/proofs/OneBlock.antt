@@ -1,16 +1,12 @@
 -- An extent that is one block of the path's last table: nothing is counted, drawn or linked for it.
-use Rattle.std.proofs.Common.{◌≡◌, ℕ, ◌+◌, ◌*◌, ◌/◌, ◌%◌, ◌^◌, ◌≤◌, List, [], ◌++◌, length, refl, ap, sym, ◌∙◌, subst, arith}
-use Rattle.std.proofs.lemmas.List.{append-nil}
-use Rattle.pt_model.specs.declared.block.Block.{Block}
-use Rattle.pt_model.specs.declared.position.Position.{Position}
+use Rattle.std.proofs.Common.{◌≡◌, ℕ, ◌+◌, ◌*◌, ◌/◌, ◌%◌, ◌^◌, ◌≤◌, ◌++◌, refl, ap, sym, ◌∙◌, subst, arith}
 use Rattle.pt_model.specs.Layout.{Layout, pages_of_entry}
-use Rattle.pt_model.specs.Tiling.{block_at}
 use Rattle.pt_format.specs.Laws.{IsLayout}
 use Rattle.pt_format.specs.Words.{MayBeLeaves}
 use Rattle.pt_tile.specs.Runs.{run_blocks}
 use Rattle.pt_view.specs.declared.view.View.{View}
 use Rattle.pt_view.specs.Calls.{held_count}
-use Rattle.pt_walk.specs.Walks.{IsFree, OwnsOver}
+use Rattle.pt_walk.specs.Walks.{IsFree}
 use Rattle.pt_view.specs.Loads.{ByLoads}
 use Rattle.pt_tile.specs.declared.extent.Extent.{Extent}
 use Rattle.pt_map.specs.Filled.{MayStore, MayStoreRun, StoresRun}

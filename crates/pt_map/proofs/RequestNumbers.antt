@@ -2,7 +2,7 @@
 use Rattle.std.proofs.Common.{◌≡◌, ◌⊎◌, ℕ, ◌+◌, ◌-◌, ◌*◌, ◌/◌, ◌%◌, ◌^◌, ◌<◌, ◌≤◌, Bool, true, false, inl, inr, refl, ap, sym, ◌∙◌, arith}
 use Rattle.std.specs.Prelude.{IsTrue, ◌&&◌, ◌==◌, not, nat_le, nat_lt, if◌then◌else◌, Some, None, option_map}
 use Rattle.std.proofs.lemmas.Bool.{cases_lt, eqb-true, lt-ltb, le-ltb, le-leb, and_from, false_from_ne_true, and_parts, leb-true}
-use Rattle.std.proofs.lemmas.Nat.{pow_pos, pow-add, mul-le, one_shl, shr_split}
+use Rattle.std.proofs.lemmas.Nat.{pow_pos, pow-add, mul-le, shr_split}
 use Rattle.pt_num.specs.declared.Span.{Span}
 use Rattle.pt_model.specs.declared.block.Prot.{Prot}
 use Rattle.pt_model.specs.Layout.{Layout, input_pages, output_pages}

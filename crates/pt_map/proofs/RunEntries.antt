@@ -19,7 +19,7 @@ use Rattle.pt_model.specs.Sets.{IsSorted, IsAmong}
 use Rattle.pt_model.proofs.Positions.{sorted_adds, adds_are}
 use Rattle.pt_model.proofs.TilingFacts.{tiling_is, tiling_unique}
 use Rattle.pt_format.specs.Laws.{IsLayout}
-use Rattle.pt_format.specs.Words.{GoBy, MayBeLeaf, MayBeLeaves}
+use Rattle.pt_format.specs.Words.{MayBeLeaf, MayBeLeaves}
 use Rattle.pt_tile.specs.declared.extent.Extent.{Extent}
 use Rattle.pt_tile.specs.Runs.{run_blocks}
 use Rattle.pt_view.specs.declared.view.View.{View}
@@ -27,7 +27,7 @@ use Rattle.pt_view.specs.declared.view.Piece.{Piece}
 use Rattle.pt_view.specs.declared.view.Change.TheVariants.{Written}
 use Rattle.pt_view.specs.Pieces.{add_pieces, all_pieces, pieces_of, word_of, words_of, entry_number}
 use Rattle.pt_walk.proofs.Cuts.{pages_few}
-use Rattle.pt_view.specs.Calls.{ArePieces, IsWritten, IsWrittenRun, MayPut, MayWrite, MayWriteRun, off_spine, pieces_at, top_over}
+use Rattle.pt_view.specs.Calls.{ArePieces, IsWritten, IsWrittenRun, MayPut, MayWrite, MayWriteRun, off_spine, top_over}
 use Rattle.pt_num.proofs.Bits.{exponent_below}
 use Rattle.pt_model.proofs.Quotients.{quotient}
 use Rattle.pt_map.specs.Filled.{Filled, MayStore, MayStoreRun}

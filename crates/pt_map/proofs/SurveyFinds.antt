@@ -1,19 +1,17 @@
 -- What a look through an extent found, of a run of its blocks, of what lies under an entry, and of one part after another.
-use Rattle.std.proofs.Common.{◌≡◌, ℕ, ◌+◌, ◌-◌, ◌*◌, ◌%◌, ◌^◌, ◌<◌, ◌≤◌, List, [], length, min, inl, refl, ap, sym, ◌∙◌, subst, arith}
+use Rattle.std.proofs.Common.{◌≡◌, ℕ, ◌+◌, ◌-◌, ◌*◌, ◌%◌, ◌^◌, ◌<◌, ◌≤◌, length, min, inl, refl, ap, sym, ◌∙◌, subst, arith}
 use Rattle.std.specs.Prelude.{nat_lt}
 use Rattle.std.proofs.lemmas.Bool.{ltb-true}
 use Rattle.pt_model.specs.declared.position.Position.{Position}
 use Rattle.pt_model.specs.Layout.{Layout}
 use Rattle.pt_format.specs.Laws.{IsLayout}
-use Rattle.pt_view.specs.Calls.{Went, left}
+use Rattle.pt_view.specs.Calls.{left}
 use Rattle.pt_view.specs.declared.holder.Seen.{Seen}
 use Rattle.pt_view.specs.declared.holder.Seen.TheVariants.{Empty, Leaf, Entered}
 use Rattle.pt_view.specs.declared.view.View.{View}
 use Rattle.pt_model.specs.Sets.{IsAmong}
 use Rattle.pt_view.specs.Views.{SameBook}
 use Rattle.pt_walk.specs.Walks.{IsFree, IsLowest}
-use Rattle.pt_view.specs.Loads.{ByLoads}
-use Rattle.pt_view.specs.Pieces.{entry_number}
 use Rattle.pt_view.proofs.Loads.{loads_on, IsLoad, back_loads, back_path, leaf_loads, load_leaf, load_none, none_loads}
 use Rattle.pt_walk.proofs.Descent.{owns_on}
 use Rattle.pt_walk.proofs.Ranges.{clear_below, clear_from, free_here, free_more, free_on, lowest_here, lowest_more, lowest_on}

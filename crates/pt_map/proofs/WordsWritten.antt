@@ -1,8 +1,7 @@
 -- The words of a block may be written.
-use Rattle.std.proofs.Common.{◌≡◌, ℕ, length, ◌+◌, ◌-◌, ◌*◌, ◌^◌, ◌<◌, ◌≤◌, List, [], ◌∷◌, ◌++◌, max, Bool, true, false, inl, inr, refl, ap, sym, ◌∙◌, subst, arith, append_assoc}
-use Rattle.std.specs.Prelude.{◌↔◌, ◌⊎◌, ◌&&◌, map, nat_le, nat_lt, not}
+use Rattle.std.proofs.Common.{◌≡◌, ℕ, ◌+◌, ◌-◌, ◌*◌, ◌^◌, ◌<◌, ◌≤◌, List, [], ◌∷◌, Bool, true, false, inl, inr, refl, ap, sym, ◌∙◌, subst, arith}
+use Rattle.std.specs.Prelude.{◌↔◌, ◌&&◌, nat_le, nat_lt, not}
 use Rattle.std.proofs.lemmas.Bool.{and_from, and_parts, cases_Bool, false≢true, le-leb, leb-true, ltb-true}
-use Rattle.std.proofs.lemmas.List.{map-append}
 use Rattle.std.proofs.lemmas.Nat.{pow_pos}
 use Rattle.pt_model.specs.declared.position.Position.{Position}
 use Rattle.pt_model.specs.declared.block.Block.{Block}
@@ -16,22 +15,14 @@ use Rattle.pt_format.specs.Laws.{IsLayout}
 use Rattle.pt_format.specs.Words.{MayBeLeaf}
 use Rattle.pt_view.specs.declared.view.View.{View}
 use Rattle.pt_view.specs.declared.view.Node.{Node}
-use Rattle.pt_view.specs.declared.view.Piece.{Piece}
-use Rattle.pt_view.specs.declared.view.Change.TheVariants.{Written}
-use Rattle.pt_view.specs.Lists.{SameFrames}
-use Rattle.pt_view.specs.Pieces.{IsOneOf, add_piece, add_pieces, all_pieces, word_of, entry_number}
-use Rattle.pt_view.specs.Loads.{AddsAbsences}
-use Rattle.pt_view.proofs.Stays.{range_on}
-use Rattle.pt_view.proofs.Loads.{absences_on, absences_here}
-use Rattle.pt_view.specs.Views.{SamePurse, SameRange}
-use Rattle.pt_view.specs.Calls.{IsWritten, MayPut, MayWrite, entry_end, entry_first, is_under, lowest, off_spine, pieces_at}
+use Rattle.pt_view.specs.Pieces.{entry_number}
+use Rattle.pt_view.specs.Calls.{MayPut, entry_end, entry_first, is_under, off_spine, pieces_at}
 use Rattle.pt_tile.specs.declared.extent.Extent.{Extent}
 use Rattle.pt_map.specs.Filled.{MayStore}
 use Rattle.pt_map.proofs.PiecesAdded.{piece_at}
 use Rattle.pt_map.proofs.PathTables.{positions}
 use Rattle.pt_map.proofs.BlockWords.{number_at, number_low, stands_here, table_at, word_ends, word_first, words_are}
 use Rattle.pt_tile.specs.Extents.{IsOneBlock, tiles}
-use Rattle.pt_tile.specs.Counting.{at_level}
 
 -- the positions of a path that aren't of the spine
 pub among_off : (levels : ℕ) (path : List Node) (p : Position) → IsAmong (off_spine levels path) p ↔ (IsAmong (positions path) p × (is_spine levels p ≡ false))

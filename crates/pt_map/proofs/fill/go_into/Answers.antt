@@ -1,5 +1,3 @@
-use Rattle.std.proofs.Common.{◌≡◌, ℕ, ◌+◌, List, length, ap, sym, subst, ◌∙◌, arith, inl, inr}
-use Rattle.pt_view.specs.declared.view.View.{View}
 use Rattle.pt_map.proofs.LinkedTables.{deeper_entered, deeper_linked, entered, may_link, purse_some, spends_entered, spends_linked}
 use Rattle.pt_view.proofs.Entries.{may_enter}
 use Rattle.pt_map.proofs.fill.go_into.Goals as goal

@@ -1,7 +1,6 @@
-use Rattle.std.proofs.Common.{◌≡◌, ◌*◌, ◌/◌, ◌^◌, ◌<◌, subst, sym, arith, min, ◌%◌, ◌+◌, ℕ, List, ap, inl, inr}
+use Rattle.std.proofs.Common.{◌≡◌, ◌*◌, ◌/◌, ◌^◌, ◌<◌, subst, sym, arith, min, ◌%◌, ◌+◌, ℕ}
 use Rattle.pt_model.specs.Layout.{pages_of_entry}
 use Rattle.pt_model.specs.Tables.{IsPosition}
-use Rattle.pt_model.specs.declared.position.Position.{Position}
 use Rattle.pt_walk.proofs.Cuts.{pages_few}
 use Rattle.pt_map.proofs.LinkedTables.{deeper_met, deeper_won, down_is, may_install, next_is, next_legal, spends_met, spends_won}
 use Rattle.pt_map.proofs.fill.link.Given.{Over}

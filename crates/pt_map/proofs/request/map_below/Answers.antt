@@ -1,7 +1,5 @@
-use Rattle.std.proofs.Common.{◌≡◌, ◌+◌, ◌<◌, ◌≤◌, ap, sym, subst, arith, ◌∙◌}
-use Rattle.std.specs.Prelude.{length}
+use Rattle.std.proofs.Common.{◌≡◌, ◌+◌, arith, ◌∙◌}
 use Rattle.std.proofs.lemmas.Result.{err_from_is_err_and}
-use Rattle.pt_view.specs.declared.view.View.{View}
 use Rattle.pt_walk.specs.Walks.{IsFree}
 use Rattle.pt_tile.specs.Extents.{tables_below}
 use Rattle.pt_map.specs.Absent.{Counted}

@@ -1,7 +1,6 @@
-use Rattle.std.proofs.Common.{◌≡◌, ℕ, ◌≤◌, arith, sym, ap, ◌∙◌, subst}
+use Rattle.std.proofs.Common.{◌≡◌, ℕ, ◌≤◌, arith, sym, subst}
 use Rattle.pt_model.specs.declared.block.Block.{Block}
 use Rattle.pt_view.specs.declared.view.View.{View}
-use Rattle.pt_view.specs.Views.{linked_count}
 use Rattle.pt_map.specs.Filled.{MayStoreRun, StoresRun}
 use Rattle.pt_map.proofs.MapFromTable.{occupied_below}
 use Rattle.pt_map.proofs.MapAnswers.{linked_walked}

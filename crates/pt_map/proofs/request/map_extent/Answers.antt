@@ -1,9 +1,7 @@
-use Rattle.std.proofs.Common.{◌≡◌, ℕ, ◌+◌, ◌*◌, ◌/◌, ◌<◌, ◌≤◌, List, sym, ap, ◌∙◌, subst, arith}
+use Rattle.std.proofs.Common.{◌≡◌, ℕ, ◌+◌, ◌*◌, ◌/◌, ◌≤◌, sym, ◌∙◌, subst, arith}
 use Rattle.pt_model.specs.Layout.{pages_of_entry}
 use Rattle.pt_tile.proofs.FirstSizes.{size_small}
-use Rattle.pt_view.specs.declared.view.View.{View}
 use Rattle.pt_view.specs.Views.{linked_count}
-use Rattle.pt_view.proofs.Loads.{root_loads}
 use Rattle.pt_map.proofs.MapFromRoot.{Begun, Reached, clear_here, low_size, may_map, owns_root, range_root, to_table}
 use Rattle.pt_map.proofs.MapAnswers.{Done, accounts, answers, full_after, left_path, linked_walked, rests_after}
 use Rattle.pt_map.proofs.OneBlock.{block_end}

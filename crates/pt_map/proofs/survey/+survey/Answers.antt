@@ -1,4 +1,4 @@
-use Rattle.std.proofs.Common.{rules, ◌≡◌, ℕ, ◌+◌, ◌-◌, ◌*◌, ◌%◌, ◌^◌, ◌<◌, ◌≤◌, sym, ap, subst, ◌∙◌, refl, arith}
+use Rattle.std.proofs.Common.{rules, ◌≡◌, ℕ, ◌*◌, ◌<◌, ◌≤◌, sym, ap, subst, ◌∙◌, refl, arith}
 use Rattle.pt_view.specs.declared.view.View.{View}
 use Rattle.pt_walk.specs.Walks.{IsFree}
 use Rattle.pt_tile.specs.declared.extent.Extent.{Extent}

@@ -1,4 +1,4 @@
-use Rattle.std.proofs.Common.{◌-◌, ◌≡◌, ◌+◌, ◌*◌}
+use Rattle.std.proofs.Common.{◌-◌, ◌+◌, ◌*◌}
 use Rattle.pt_walk.specs.Walks.{IsFree}
 use Rattle.pt_map.proofs.AbsentCounted.{HasGone}
 use Rattle.pt_view.specs.Views.{Stays}
