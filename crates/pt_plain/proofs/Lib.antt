@@ -10,10 +10,12 @@ mod Steps
 mod Carried
 -- The calls, and a new space.
 mod Stored
+mod RunWords
 mod PathCalls
 mod TagCalls
 mod EntryCalls
 mod ClearCalls
 mod UnlinkCalls
 mod RunCalls
+mod ClearRunCalls
 mod NewWords

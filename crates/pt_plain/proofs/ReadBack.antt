@@ -1,16 +1,16 @@
 -- Where the rule holds of words and a view of the whole space, the fields are those of that view, and it has noted all
 -- that the words say, then the view that the words and fields say agrees with it, and the rule holds with it too.
 use Rattle.std.proofs.Common.{◌≡◌, ◌≢◌, ◌⊎◌, inl, inr, true, ℕ, ◌+◌, ◌-◌, ◌<◌, ◌≤◌, List, [], ◌∷◌, length, refl, ap, sym, ◌∙◌, subst, arith, ⊎_elim}
-use Rattle.std.specs.Prelude.{IsTrue, map, Option, None, Some, nat_le, nat_lt, ◌&&◌}
+use Rattle.std.specs.Prelude.{IsTrue, Option, None, Some, nat_le, nat_lt, ◌&&◌}
 use Rattle.std.proofs.lemmas.Bool.{and_from, and_parts, le-leb, leb-true, lt-ltb, ltb-true, or_cases, or_left, or_right}
 use Rattle.std.proofs.lemmas.List.{append-nil}
 use Rattle.std.proofs.lemmas.Nat.{pow_pos}
 use Rattle.pt_model.specs.declared.position.Position.{Position}
 use Rattle.pt_model.specs.Layout.{Layout, input_pages}
 use Rattle.pt_model.specs.Sets.{IsAmong, SamePositions, places}
-use Rattle.pt_model.specs.Tables.{end_of_table, is_spine, levels_between, spine_position, starting_top}
+use Rattle.pt_model.specs.Tables.{end_of_table, is_spine}
 use Rattle.pt_model.specs.Words.{placed_at, root_level, tag}
-use Rattle.pt_model.proofs.Positions.{among_all, among_append, among_levels}
+use Rattle.pt_model.proofs.Positions.{among_all}
 use Rattle.pt_view.specs.declared.view.View.{View}
 use Rattle.pt_view.specs.declared.view.Node.{Node}
 use Rattle.pt_view.specs.declared.view.Prepared.{Prepared}

@@ -25,7 +25,7 @@ use Rattle.pt_plain.proofs.Owners.{Does, does, given, span_whole}
 use Rattle.pt_view.proofs.Stays.{purse_here, purse_on, range_here, range_on}
 
 -- What a number of writes leaves of a view, beside its pieces.
-record Keeps (v w : View) : Type 0 where
+pub record Keeps (v w : View) : Type 0 where
   pub range : SameRange v w
   pub purse : SamePurse v w
   pub path : w.path ≡ v.path
@@ -35,7 +35,7 @@ record Keeps (v w : View) : Type 0 where
   pub tables : w.tables ≡ v.tables
   pub top : w.top ≡ v.top
 
-keeps_here : (v : View) → Keeps v v
+pub keeps_here : (v : View) → Keeps v v
 keeps_here v = record {
   range = range_here;
   purse = purse_here;
@@ -45,6 +45,18 @@ keeps_here v = record {
   known = λ p. ((λ h. h), (λ h. h));
   tables = refl;
   top = refl;
+}
+
+pub keeps_on : {u v w : View} → Keeps u v → Keeps v w → Keeps u w
+keeps_on a b = record {
+  range = range_on a.range b.range;
+  purse = purse_on a.purse b.purse;
+  path = b.path ∙ a.path;
+  prepared = b.prepared ∙ a.prepared;
+  busy = λ x. ((λ h. (a.busy x).0 ((b.busy x).0 h)), (λ h. (b.busy x).1 ((a.busy x).1 h)));
+  known = λ p. ((λ h. (a.known p).0 ((b.known p).0 h)), (λ h. (b.known p).1 ((a.known p).1 h)));
+  tables = b.tables ∙ a.tables;
+  top = b.top ∙ a.top;
 }
 
 pub run_length : (words : List ℕ) (place count word step : ℕ) → length (set_run words place count word step) ≡ length words
@@ -157,16 +169,16 @@ module _ {f : Layout} (laws : Laws f) {o : Fields} (own : IsOwner f o) {first co
     after =
         let k = w.keeps in let r = wrote.0 in record {
           owner = step_does.owner;
-          keeps = record {
-            range = range_on k.range r.range;
-            purse = purse_on k.purse r.purse;
-            path = r.path ∙ k.path;
-            prepared = r.prepared ∙ k.prepared;
-            busy = λ y. ((λ h. (k.busy y).0 ((r.busy y).0 h)), (λ h. (r.busy y).1 ((k.busy y).1 h)));
-            known = λ p. ((λ h. (k.known p).0 ((r.known p).0 h)), (λ h. (r.known p).1 ((k.known p).1 h)));
-            tables = wrote.1 ∙ k.tables;
-            top = wrote.2 ∙ k.top;
-          };
+          keeps = keeps_on k (record {
+            range = r.range;
+            purse = r.purse;
+            path = r.path;
+            prepared = r.prepared;
+            busy = r.busy;
+            known = r.known;
+            tables = wrote.1;
+            top = wrote.2;
+          });
           pieces = r.pieces (piece i) refl may ∙ ap (λ (xs : List Piece). add_piece f xs (piece i)) w.pieces
               ∙ sym (fold-append (add_piece f) v.pieces (pieces_by piece i) (piece i ∷ [])) ∙ ap (add_pieces f v.pieces) (sym (one_more i));
           top = ap (top_over f v.levels v.top) (one_more i) ∙ top_stays f v.levels v.top (pieces_by piece i) w.top (piece i) reaches;

@@ -1,20 +1,20 @@
 -- The call that unlinks a table: a load of its entry, a store of zero there, and a store of the table's tag.
-use Rattle.std.proofs.Common.{◌≡◌, ◌≢◌, ℕ, true, false, ◌+◌, ◌-◌, ◌%◌, ◌<◌, ◌≤◌, List, [], ◌∷◌, ◌++◌, length, refl, ap, sym, ◌∙◌, subst, arith, eq-eqb, ⊎_elim}
+use Rattle.std.proofs.Common.{◌≡◌, ◌≢◌, ℕ, true, false, ◌+◌, ◌%◌, ◌<◌, ◌≤◌, List, [], ◌∷◌, length, refl, ap, sym, ◌∙◌, subst, arith, ⊎_elim}
 use Rattle.std.specs.Prelude.{IsTrue, None, Some, Option, not, slice_index, slice_set}
 use Rattle.std.proofs.lemmas.Bool.{false≢true, not-true}
 use Rattle.pt_model.specs.declared.position.Position.{Position}
 use Rattle.pt_model.specs.Layout.{Layout}
-use Rattle.pt_model.specs.Sets.{IsAmong, RemovesPosition, without_position}
+use Rattle.pt_model.specs.Sets.{IsAmong}
 use Rattle.pt_model.specs.Tables.{child_at, is_same, is_spine}
 use Rattle.pt_model.specs.Words.{entry_of, entry_place, frame_address, frame_named, tag}
 use Rattle.pt_model.proofs.Places.{root_after_entry, root_after_tag, tag_after_entry}
 use Rattle.pt_model.proofs.Positions.{among_filtered, same_cases}
-use Rattle.pt_format.specs.Words.{IsPointer, IsTableAddress, IsTableLevel}
+use Rattle.pt_format.specs.Words.{IsPointer, IsTableLevel}
 use Rattle.pt_view.specs.declared.view.View.{View}
 use Rattle.pt_view.specs.declared.view.Node.{Node}
 use Rattle.pt_view.specs.declared.view.Prepared.{Prepared}
 use Rattle.pt_view.specs.declared.holder.Seen.TheVariants.{Entered}
-use Rattle.pt_view.specs.Calls.{IsEntryAt, IsUnlinked, MayUnlink, UnlinkFinds, Went, held_count, lowest, prepared_count}
+use Rattle.pt_view.specs.Calls.{IsUnlinked, MayUnlink, UnlinkFinds, Went, lowest, prepared_count}
 use Rattle.pt_view.proofs.Paths.{lowest_snoc}
 use Rattle.pt_rule.specs.Holds.{Holds}
 use Rattle.pt_rule.specs.Tags.{first_or, held_word}
@@ -29,7 +29,6 @@ use Rattle.pt_plain.proofs.Known.{known_cases, known_spine, known_table}
 use Rattle.pt_plain.proofs.Laws.{Laws}
 use Rattle.pt_plain.proofs.Matches.{path_kept, prepared_kept, purse_more}
 use Rattle.pt_plain.proofs.Owners.{Does, frame_within, given, level_below, level_is, live, lowest_in, matches, place_is, shown, span_whole}
-use Rattle.pt_plain.proofs.ReadBack.{Noted}
 use Rattle.pt_plain.proofs.Steps.{busy_here, busy_within, known_here, loaded, read_back, says, told}
 use Rattle.pt_plain.proofs.TagCalls.{next_is, purse_length, tags_before}
 

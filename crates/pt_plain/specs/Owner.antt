@@ -4,6 +4,7 @@ use Rattle.std.specs.Prelude.{◌≡◌, ℕ, zero, suc, ◌+◌, ◌-◌, ◌*�
 use Rattle.pt_model.specs.declared.position.Position.{Position}
 use Rattle.pt_model.specs.declared.block.Block.{Block}
 use Rattle.pt_model.specs.Layout.{Layout, input_pages}
+use Rattle.pt_model.specs.Sets.{one_if}
 use Rattle.pt_model.specs.Tables.{levels_between, spine_position, starting_top}
 use Rattle.pt_model.specs.Words.{tag, placed_at, root_level}
 use Rattle.pt_view.specs.declared.view.View.{View}
@@ -59,6 +60,11 @@ pub record Owned : Type 0 where
 abbrev pub set_run : (words : List ℕ) → (place count word step : ℕ) → List ℕ
 set_run words place zero word step = words
 set_run words place (suc count) word step = slice_set (set_run words place count word step) (place + count) (word + count * step)
+
+-- how many of so many words from a place on aren't zero
+abbrev pub nonzero_in : (words : List ℕ) → (place count : ℕ) → ℕ
+nonzero_in words place zero = 0
+nonzero_in words place (suc count) = nonzero_in words place count + one_if (not (slice_index words (place + count) == 0))
 
 -- the frame that a held frame's tag names as the next one of its purse
 abbrev pub next_named : (word : ℕ) → Option ℕ

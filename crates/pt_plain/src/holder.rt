@@ -3,7 +3,7 @@
 use crate::plain::Plain;
 use crate::words::{
     entry, frame_address, frame_named, held_word, next_in, placed_word, root_level, set_entry,
-    set_run, set_tag, tag_of,
+    set_run, set_tag, tag_of, zero_run,
 };
 use pt_format::Format;
 use pt_num::Span;
@@ -111,6 +111,11 @@ impl<F: Format> Holder<F> for Plain<F> {
     fn clear(&mut self, number: u32) {
         let frame = self.path[self.level as usize];
         set_entry::<F>(&mut self.words, self.frames, frame, number, 0);
+    }
+
+    fn clear_run(&mut self, first: u32, count: u32) -> u32 {
+        let frame = self.path[self.level as usize];
+        zero_run::<F>(&mut self.words, self.frames, frame, first, count)
     }
 
     fn unlink(&mut self, number: u32) {

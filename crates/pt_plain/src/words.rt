@@ -127,6 +127,34 @@ pub(crate) fn set_run<F: Format>(
     }
 }
 
+/// Sets `count` entries of a frame from number `first` on to zero. Answers how many weren't.
+pub(crate) fn zero_run<F: Format>(
+    words: &mut [u64],
+    frames: u32,
+    frame: u32,
+    first: u32,
+    count: u32,
+) -> u32
+    requires few { frames ≤ frame_limit F.layout }
+    requires a_frame { frame < frames }
+    requires some { 0 < count }
+    requires inside { first + count ≤ 2 ^ F.layout.index }
+    requires long { length words.old ≡ words_are.word_count F.layout frames }
+    ensures set { words.new ≡ owner.set_run words.old (words_are.entry_place F.layout frames frame first) count 0 0 }
+    ensures number { result ≡ owner.nonzero_in words.old (words_are.entry_place F.layout frames frame first) count }
+{
+    let place = entry_place::<F>(frames, frame, first);
+    let mut cleared = 0;
+    for done in 0..count {
+        let at = place + done as usize;
+        if words[at] != 0 {
+            cleared += 1;
+        }
+        words[at] = 0;
+    }
+    cleared
+}
+
 /// The tag of a frame that is placed as the table at a position.
 pub(crate) fn placed_word(level: u32, base: u64) -> u64
     requires low { level < 8 }

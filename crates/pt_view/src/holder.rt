@@ -10,6 +10,7 @@ ghost use Rattle.pt_view.specs.Calls.{MeetsEntry, Rooted, Went, left};
 ghost use Rattle.pt_view.specs.Calls.{IsPrepared, IsPlaced, IsUnplaced, MayInstall, IsInstalled, InstallFinds};
 ghost use Rattle.pt_view.specs.Calls.{MayWrite, IsWritten, MayWriteRun, IsWrittenRun};
 ghost use Rattle.pt_view.specs.Calls.{MayClear, IsCleared, MayUnlink, IsUnlinked, UnlinkFinds};
+ghost use Rattle.pt_view.specs.Runs.{MayClearRun, IsClearedRun};
 ghost use Rattle.pt_view.specs.Calls.{IsTaken, HasEveryFrame, FillsSpace, FitsSpace};
 
 use pt_format::Format;
@@ -116,6 +117,13 @@ pub trait Holder<F: Format> {
         requires { MayClear F.layout (view self.old) number }
         ensures stays { Stays space aside alone self.old self.new }
         ensures cleared { IsCleared F.layout tells number (view self.old) (view self.new) };
+
+    /// Clears those of `count` entries of the path's last table, from number `first` on, at which the word of an own
+    /// block stands. The table is of level 0. Answers how many. Others see the stores one by one.
+    fn clear_run(&mut self, first: u32, count: u32) -> u32
+        requires { MayClearRun F.layout (view self.old) first count }
+        ensures stays { Stays space aside alone self.old self.new }
+        ensures cleared { IsClearedRun F.layout tells first count (view self.old) result (view self.new) };
 
     /// Unlinks the table at an entry of the path's last table: its frame is then the first of the purse.
     fn unlink(&mut self, number: u32)
