@@ -1,6 +1,6 @@
 -- Where a live view spans the whole space, the rule holds with this view alone.
-use Rattle.std.proofs.Common.{◌≡◌, ◌≢◌, ◌⊎◌, ℕ, zero, suc, Bool, ◌<◌, ◌≤◌, List, [], ◌∷◌, sym, refl, ap, ◌∙◌, subst, arith}
-use Rattle.std.specs.Prelude.{IsTrue, ◌&&◌, nat_lt}
+use Rattle.std.proofs.Common.{◌≡◌, ◌≢◌, ◌⊎◌, ℕ, zero, suc, ◌<◌, ◌≤◌, List, [], ◌∷◌, sym, refl, ap, ◌∙◌, subst, arith}
+use Rattle.std.specs.Prelude.{IsTrue, nat_lt}
 use Rattle.std.specs.List.{AllByRecursion}
 use mathlib.Core.Option.{some, some-injective, some-ne-none}
 use mathlib.Core.Logic.{dite}
@@ -11,21 +11,18 @@ use Rattle.pt_model.specs.Layout.{Layout, input_pages}
 use Rattle.pt_model.specs.Tables.{end_of_table, is_spine}
 use Rattle.pt_model.specs.Words.{tag, root_level}
 use Rattle.pt_view.specs.declared.view.View.{View}
-use Rattle.pt_view.specs.declared.view.Piece.{Piece}
-use Rattle.pt_model.specs.Sets.{one_if, IsAmong}
+use Rattle.pt_model.specs.Sets.{IsAmong}
 use Rattle.pt_view.specs.Lists.{IsIn}
 use Rattle.pt_view.specs.Pieces.{table_of}
 use Rattle.pt_view.specs.Calls.{meets_span}
 use Rattle.pt_view.specs.Views.{spent}
 use Rattle.pt_rule.specs.Totals.{total, Each, covers, holds, prepares, has_table, has_piece, has_word, has_bridge}
-use Rattle.pt_rule.specs.Tags.{IsEnd, Chained, is_placed}
+use Rattle.pt_rule.specs.Tags.{IsEnd, Chained}
 use Rattle.pt_rule.specs.Linked.{is_in_tree}
 use Rattle.pt_rule.specs.Lawful.{Lawful, HasBook, HasPath, IsPreparedAt, IsBridged}
 use Rattle.pt_rule.proofs.TotalsKept.{total_only}
-use Rattle.pt_view.proofs.Members.{all_map}
-use Rattle.pt_rule.proofs.PartsKept.{SameLinks, links_same, SameTree, tree_same, bridged_to, positions_same, parents_same, path_same}
 use Rattle.pt_rule.proofs.SpansFacts.{covers_none, whole_only}
-use Rattle.pt_rule.proofs.FindsKept.{same_range}
+use Rattle.pt_rule.proofs.RegroupedViews.{regrouped}
 
 pub only : (P : View → Type 0) (v : View) → P v → Each (v ∷ []) P
 only P v h zero u e = subst P (some-injective v u e) h
@@ -46,12 +43,6 @@ module _ (f : Layout) (n l : ℕ) (words : List ℕ) (views : List View) (id : �
   alone_total : (c : View → ℕ) → c spent ≡ 0 → total c (v ∷ []) ≡ total c views
   alone_total c none = let t = total_only c views id v at (λ j u ne there. ap c (others_spent j u ne there) ∙ none) in omega arith
 
-  alone_links : SameLinks n words words views (v ∷ [])
-  alone_links = links_same n words words views (v ∷ []) (λ h lt. refl) (λ h. alone_total (prepares h) refl)
-
-  alone_tree : SameTree l words words views (v ∷ [])
-  alone_tree = tree_same l words words views (v ∷ []) refl (λ p. alone_total (has_table p) refl)
-
   alone_reached : ((j : ℕ) × (u : View) × (get_elem? views j ≡ some u) × (0 < u.count) × (u.top ≡ root_level words)) →
       (j : ℕ) × (u : View) × (get_elem? (v ∷ []) j ≡ some u) × (0 < u.count) × (u.top ≡ root_level words)
   alone_reached (j, u, there, live, is) = dite (ℕ_discrete j id)
@@ -60,46 +51,25 @@ module _ (f : Layout) (n l : ℕ) (words : List ℕ) (views : List View) (id : �
       (λ ne. absurd (let dead : u.count ≡ 0 = ap (λ (z : View). z.count) (others_spent j u ne there) in omega arith))
 
   pub alone : Lawful f n l words (v ∷ [])
-  alone = record {
-    spans = λ page. alone_total (covers page) (nowhere_empty page) ∙ r.spans page;
-    frames = record {
-      tags = r.frames.tags;
-      held = λ h lt. alone_total (holds h) refl ∙ r.frames.held h lt;
-      prepared = λ h lt. subst (λ (t : ℕ). t ≤ one_if (is_placed (tag words h))) (sym (alone_total (prepares h) refl)) (r.frames.prepared h lt);
-      none_held = λ h le. alone_total (holds h) refl ∙ r.frames.none_held h le;
-      none_prepared = λ h le. alone_total (prepares h) refl ∙ r.frames.none_prepared h le;
-      at = only (λ u. IsPreparedAt words u.prepared) v (r.frames.at id v at);
-      bridges = only (λ u. IsBridged f n words (v ∷ []) u.levels u.prepared) v (bridged_to f n words words views (v ∷ []) alone_links v.levels v.prepared (r.frames.bridges id v at));
-      cleared = λ h i lt unlinked small. r.frames.cleared h i lt (λ a. unlinked (alone_links.to h a)) small ∙ sym (alone_total (has_bridge f h i) refl);
-    };
-    positions = positions_same f n l words words views (v ∷ []) alone_links alone_tree r.positions;
-    root = record {
-      is_linked = record { is_linked = alone_links.to _ r.root.is_linked.is_linked; at = r.root.is_linked.at };
-      greatest = only (λ u. u.top ≤ root_level words) v (r.root.greatest id v at);
-      reached = alone_reached r.root.reached;
-    };
-    parents = parents_same f n l words words views (v ∷ []) alone_links alone_tree (λ g h p a ne b. refl) r.parents;
-    entries = record {
-      words_are = λ h i p a small none. r.entries.words_are h i p (record { is_linked = alone_links.back h a.is_linked; at = a.at }) small
-          (sym (ap (λ (b : Bool). nat_lt 0 p.level && b) (alone_tree.tree _)) ∙ none) ∙ sym (alone_total (has_word f p i) refl);
-      apart = λ i p one. alone_total (has_piece f p i) refl ∙ r.entries.apart i p (sym (ap (λ (b : Bool). nat_lt 0 p.level && b) (alone_tree.tree _)) ∙ one);
-      once = λ i p. subst (λ (t : ℕ). t ≤ 1) (sym (alone_total (has_piece f p i) refl)) (r.entries.once i p);
-      homes = only (λ u. AllByRecursion (λ x. IsTrue (is_in_tree l words (v ∷ []) (table_of f x))) u.pieces) v
-          (all_map (λ (x : Piece). IsTrue (is_in_tree l words views (table_of f x))) (λ x. IsTrue (is_in_tree l words (v ∷ []) (table_of f x))) v.pieces (λ x h. alone_tree.tree (table_of f x) ∙ h) (r.entries.homes id v at));
-    };
+  alone = regrouped f n l words views (v ∷ []) r (record {
+    pages = λ page. alone_total (covers page) (nowhere_empty page);
+    held = λ h. alone_total (holds h) refl;
+    prepared = λ h. alone_total (prepares h) refl;
+    bridge = λ h i. alone_total (has_bridge f h i) refl;
+    pieces = λ i p. alone_total (has_piece f p i) refl;
+    entries = λ i p. alone_total (has_word f p i) refl;
+    tables = λ p. ap (nat_lt 0) (alone_total (has_table p) refl);
+    at = only (λ u. IsPreparedAt words u.prepared) v (r.frames.at id v at);
+    bridged = only (λ u. IsBridged f n words views u.levels u.prepared) v (r.frames.bridges id v at);
+    greatest = only (λ u. u.top ≤ root_level words) v (r.root.greatest id v at);
+    reached = alone_reached r.root.reached;
+    homes = only (λ u. AllByRecursion (λ x. IsTrue (is_in_tree l words views (table_of f x))) u.pieces) v (r.entries.homes id v at);
     books = only (λ u. 0 < u.count → HasBook f u) v (r.books id v at);
-    paths = only (HasPath f n words (v ∷ [])) v (path_same f n words words views (v ∷ []) v v alone_links (same_range v) refl (r.paths id v at));
+    paths = only (HasPath f n words views) v (r.paths id v at);
     purses = record { chained = only (λ u. Chained words u.end u.purse) v (r.purses.chained id v at); ends = only (λ u. IsEnd n u.end) v (r.purses.ends id v at) };
-    sizes = record {
-      some_frame = r.sizes.some_frame;
-      limit = r.sizes.limit;
-      words_are = r.sizes.words_are;
-      levels_low = r.sizes.levels_low;
-      levels_high = r.sizes.levels_high;
-      live = only (λ u. 0 < u.count → (u.frames ≡ n) × (u.levels ≡ l)) v (r.sizes.live id v at);
-      dead = only (λ u. u.count ≡ 0 → u ≡ spent) v (r.sizes.dead id v at);
-    };
+    live = only (λ u. 0 < u.count → (u.frames ≡ n) × (u.levels ≡ l)) v (r.sizes.live id v at);
+    dead = only (λ u. u.count ≡ 0 → u ≡ spent) v (r.sizes.dead id v at);
     busy = only (λ u. u.count ≡ input_pages f → (h : ℕ) → h < n → IsIn u.busy h → tag words h ≢ 0) v (r.busy id v at);
-    known = only (λ u. (p : Position) → IsAmong u.known p → IsTrue (is_in_tree l words (v ∷ []) p) × (IsTrue (is_spine u.levels p) ⊎ IsTrue (meets_span u p.base (end_of_table f p)))) v
-        (λ p a. let b = r.known id v at p a in (alone_tree.tree p ∙ b.0, b.1));
-  }
+    known = only (λ u. (p : Position) → IsAmong u.known p → IsTrue (is_in_tree l words views p) × (IsTrue (is_spine u.levels p) ⊎ IsTrue (meets_span u p.base (end_of_table f p)))) v
+        (r.known id v at);
+  })

@@ -21,6 +21,7 @@ mod FindsKept
 mod NotesKept
 mod MayNote
 mod TagWritten
+mod RegroupedViews
 mod AloneKept
 -- The law of each kind of step: first those of tags, then loads, then stores and exchanges of entries, then of the root.
 mod TakeKept
@@ -54,7 +55,6 @@ mod WalkUnion
 mod LiveViews
 -- Cuts: a path that is cut, a view cut in two, and two views as one.
 mod CutPaths
-mod RegroupedViews
 mod CutLists
 mod HalfBook
 mod SplitKept

@@ -1,5 +1,5 @@
 -- The rule at small states of a format of four entries a table: a new space, and one with a mapped page, are lawful.
-use Rattle.std.proofs.Common.{◌≡◌, ◌≢◌, ◌⊎◌, inl, inr, ℕ, zero, suc, Bool, true, false, ◌+◌, ◌-◌, ◌*◌, ◌/◌, ◌%◌, ◌^◌, ◌<◌, ◌≤◌, List, [], ◌∷◌, sym, refl, ap, ◌∙◌, subst, ⊎_elim, arith, Some, None}
+use Rattle.std.proofs.Common.{◌≡◌, ◌≢◌, ◌⊎◌, inl, inr, ℕ, zero, suc, Bool, true, false, ◌+◌, ◌-◌, ◌*◌, ◌/◌, ◌%◌, ◌^◌, ◌<◌, ◌≤◌, List, [], ◌∷◌, length, sym, refl, ap, ◌∙◌, subst, ⊎_elim, arith, Some, None}
 use Rattle.std.specs.Prelude.{IsTrue, ◌==◌, ◌&&◌, nat_lt, nat_le, if◌then◌else◌}
 use Rattle.std.proofs.lemmas.Bool.{and_parts, eqb-true, ltb-true, leb-true, or_cases, cases_Bool}
 use Rattle.std.proofs.lemmas.Bool.Decides.{nat_tests}
@@ -13,13 +13,14 @@ use Rattle.pt_view.specs.declared.view.View.{View}
 use Rattle.pt_view.specs.declared.view.Piece.{Piece}
 use Rattle.pt_model.specs.Sets.{one_if, IsAmong}
 use Rattle.pt_view.specs.Lists.{IsIn}
+use Rattle.pt_view.specs.Views.{spent}
 use Rattle.pt_view.specs.Calls.{meets_span}
 use Rattle.pt_rule.specs.Totals.{total, Each, holds, prepares, has_table, has_piece, has_word}
 use Rattle.pt_rule.specs.Tags.{IsTag, held_word, is_held, is_placed}
 use Rattle.pt_rule.specs.Linked.{IsLinked, IsLinkedAt, is_in_tree}
-use Rattle.pt_rule.specs.Lawful.{Lawful, slot_of, has_child}
+use Rattle.pt_rule.specs.Lawful.{Lawful, ParentsPart, PositionsPart, SizesPart, slot_of, has_child}
 use Rattle.pt_rule.specs.Opening.{opening_view, IsNew}
-use Rattle.pt_model.proofs.Positions.{among_cases, bit_le, is_same_true, true_bit}
+use Rattle.pt_model.proofs.Positions.{among_cases, bit_le, is_same_true, same_position, true_bit}
 
 -- Pages of 4 KiB and four entries a table, so 64 pages under three levels. A space starts with two levels.
 abbrev pub small : Layout
@@ -66,12 +67,89 @@ tree_cases l words views p e = ⊎_elim
     (λ h. inr (ltb-true 0 (total (has_table p) views) h))
     (or_cases (is_spine l p && nat_le p.level (root_level words)) (nat_lt 0 (total (has_table p) views)) e)
 
-same_position : (p q : Position) → p.level ≡ q.level → p.base ≡ q.base → p ≡ q
-same_position p q e h = λ i. record { level = e i; base = h i }
-
 pub only : (P : View → Type 0) (v : View) → P v → Each (v ∷ []) P
 only P v h zero u e = subst P (some-injective v u e) h
 only P v h (suc j) u e = absurd (some-ne-none u (sym e))
+
+-- The sizes of a space of four frames and two levels.
+pub sizes_are : (words : List ℕ) (views : List View) → length words ≡ 21 → Each views (λ v. 0 < v.count → (v.frames ≡ 4) × (v.levels ≡ 2)) →
+    Each views (λ v. v.count ≡ 0 → v ≡ spent) → SizesPart small 4 2 words views
+sizes_are words views long live dead = record {
+  some_frame = omega arith;
+  limit = omega arith;
+  words_are = long;
+  levels_low = omega arith;
+  levels_high = omega arith;
+  live = live;
+  dead = dead;
+}
+
+-- what holds of both positions of two tables holds of each known one
+pub two_known : (P : Position → Type 0) → P (at 0 4) → P (at 1 0) → (p : Position) → IsAmong (at 0 4 ∷ at 1 0 ∷ []) p → P p
+two_known P low high p k = ⊎_elim (λ (e : p ≡ at 0 4). subst P (sym e) low)
+    (λ (rest : IsAmong (at 1 0 ∷ []) p). ⊎_elim (λ (e : p ≡ at 1 0). subst P (sym e) high) (λ (none : 0 < 0). absurd (omega arith)) (among_cases p (at 1 0) [] rest))
+    (among_cases p (at 0 4) (at 1 0 ∷ []) k)
+
+-- A tree of two tables: frame 0 is the root's table, which names frame 1, the table at page 4, at its entry 1.
+module _ (words : List ℕ) (views : List View) (linked : (g : ℕ) → IsLinked 4 words views g → (g ≡ 0) ⊎ (g ≡ 1)) (root : IsLinkedAt 4 words views 0 (at 1 0))
+    (table : IsLinkedAt 4 words views 1 (at 0 4)) (high : root_level words ≡ 1) (tables : (p : Position) → 0 < total (has_table p) views → p ≡ at 0 4)
+    (in_root : IsTrue (is_in_tree 2 words views (at 1 0))) (in_table : IsTrue (is_in_tree 2 words views (at 0 4)))
+    (pointer : entry_of small 4 words 0 1 ≡ small.pointer 1 (frame_address small 1)) where
+  not_one : tag words 0 ≡ tag words 1 → ⊥
+  not_one e = let same : at 1 0 ≡ at 0 4 = sym root.at ∙ ap placed_at e ∙ table.at in let z : 1 ≡ 0 = ap (λ (p : Position). p.level) same in absurd (omega (arith, z))
+
+  linked_at : (g : ℕ) (p : Position) → IsLinkedAt 4 words views g p → ((g ≡ 0) × (p ≡ at 1 0)) ⊎ ((g ≡ 1) × (p ≡ at 0 4))
+  linked_at g p a = ⊎_elim
+      (λ (e : g ≡ 0). inl (e, sym a.at ∙ ap (λ (z : ℕ). placed_at (tag words z)) e ∙ root.at))
+      (λ (e : g ≡ 1). inr (e, sym a.at ∙ ap (λ (z : ℕ). placed_at (tag words z)) e ∙ table.at)) (linked g a.is_linked)
+
+  in_tree : (p : Position) → IsTrue (is_in_tree 2 words views p) → (p ≡ at 1 0) ⊎ (p ≡ at 0 4)
+  in_tree p e = ⊎_elim (λ (h : (1 ≤ p.level) × (p.base ≡ 0) × (p.level ≤ root_level words)). inl (same_position p (at 1 0) (omega arith) h.1))
+      (λ (h : 0 < total (has_table p) views). inr (tables p h)) (tree_cases 2 words views p e)
+
+  pub unlinked_high : (g : ℕ) → g < 4 → ¬ IsLinked 4 words views g → 2 ≤ g
+  unlinked_high = four (λ g. ¬ IsLinked 4 words views g → 2 ≤ g) (λ n. absurd (n root.is_linked)) (λ n. absurd (n table.is_linked)) (λ n. omega arith) (λ n. omega arith)
+
+  pub two_positions : PositionsPart small 4 2 words views
+  two_positions = record {
+    distinct = λ g h a b e. ⊎_elim
+        (λ (x : g ≡ 0). ⊎_elim (λ (y : h ≡ 0). x ∙ sym y) (λ (y : h ≡ 1). absurd (not_one (sym (ap (tag words) x) ∙ e ∙ ap (tag words) y))) (linked h b))
+        (λ (x : g ≡ 1). ⊎_elim (λ (y : h ≡ 0). absurd (not_one (sym (ap (tag words) y) ∙ sym e ∙ ap (tag words) x))) (λ (y : h ≡ 1). x ∙ sym y) (linked h b))
+        (linked g a);
+    in_tree = λ g a. ⊎_elim
+        (λ (e : g ≡ 0). subst (λ (p : Position). IsTrue (is_in_tree 2 words views p)) (sym (ap (λ (z : ℕ). placed_at (tag words z)) e ∙ root.at)) in_root)
+        (λ (e : g ≡ 1). subst (λ (p : Position). IsTrue (is_in_tree 2 words views p)) (sym (ap (λ (z : ℕ). placed_at (tag words z)) e ∙ table.at)) in_table) (linked g a);
+    all = λ p e. ⊎_elim (λ (h : p ≡ at 1 0). (0, subst (IsLinkedAt 4 words views 0) (sym h) root))
+        (λ (h : p ≡ at 0 4). (1, subst (IsLinkedAt 4 words views 1) (sym h) table)) (in_tree p e);
+  }
+
+  pub two_parents : ParentsPart small 4 2 words views
+  two_parents = record {
+    closed = λ p e other. ⊎_elim (λ (h : p ≡ at 1 0). absurd (other (h ∙ ap spine_position (sym high))))
+        (λ (h : p ≡ at 0 4). subst (λ (q : Position). IsTrue (is_in_tree 2 words views (parent_of small q))) (sym h) in_root) (in_tree p e);
+    named = λ g h p a other b. ⊎_elim (λ (e : (h ≡ 0) × (p ≡ at 1 0)). absurd (other (e.1 ∙ ap spine_position (sym high))))
+        (λ (e : (h ≡ 1) × (p ≡ at 0 4)). ⊎_elim
+        (λ (d : (g ≡ 0) × (parent_of small p ≡ at 1 0)).
+        subst (λ (x : ℕ × ℕ × Position). entry_of small 4 words x.0 (slot_of small x.2) ≡ small.pointer (x.2.level + 1) (frame_address small x.1))
+        (λ k. (sym d.0 k, sym e.0 k, sym e.1 k)) pointer)
+        (λ (d : (g ≡ 1) × (parent_of small p ≡ at 0 4)). absurd (let z : 1 ≡ 0 = ap (λ (q : Position). (parent_of small q).level) (sym e.1) ∙ ap (λ (q : Position). q.level) d.1 in omega arith))
+        (linked_at g (parent_of small p) b))
+        (linked_at h p a);
+  }
+
+  -- the root's table has a child at its entry 1 alone, and the table at page 4 has none
+  abbrev Right : ℕ → ℕ × Position → Type 0
+  Right i x = entry_of small 4 words x.0 i ≡ total (has_word small x.1 i) views
+
+  pub two_entries : Right 0 (0, at 1 0) → Right 2 (0, at 1 0) → Right 3 (0, at 1 0) → ((i : ℕ) → i < 4 → Right i (1, at 0 4)) → (g i : ℕ) (p : Position) →
+      IsLinkedAt 4 words views g p → i < 4 → has_child small 2 words views p i ≡ false → entry_of small 4 words g i ≡ total (has_word small p i) views
+  two_entries first third fourth low g i p a h none = ⊎_elim
+      (λ (e : (g ≡ 0) × (p ≡ at 1 0)). four (λ i. has_child small 2 words views p i ≡ false → Right i (g, p))
+      (λ _. subst (Right 0) (λ k. (sym e.0 k, sym e.1 k)) first)
+      (λ c. absurd (let d : true ≡ false = sym in_table ∙ sym (ap (λ (q : Position). has_child small 2 words views q 1) e.1) ∙ c in cc))
+      (λ _. subst (Right 2) (λ k. (sym e.0 k, sym e.1 k)) third) (λ _. subst (Right 3) (λ k. (sym e.0 k, sym e.1 k)) fourth) i h none)
+      (λ (e : (g ≡ 1) × (p ≡ at 0 4)). subst (Right i) (λ k. (sym e.0 k, sym e.1 k)) (low i h))
+      (linked_at g p a)
 
 -- A new space of four frames: frame 0 is the root's table, and the purse has the other three.
 
@@ -145,15 +223,7 @@ new_lawful = record {
   books = only _ new_view (λ live. record { pieces = tt; tables = tt; in_order = tt; pieces_in_order = tt; top_low = omega arith; top_high = omega arith });
   paths = only _ new_view (record { nodes = tt; begins = tt; descends = tt });
   purses = record { chained = only _ new_view (refl, (refl, (refl, tt))); ends = only _ new_view tt };
-  sizes = record {
-    some_frame = omega arith;
-    limit = omega arith;
-    words_are = refl;
-    levels_low = omega arith;
-    levels_high = omega arith;
-    live = only _ new_view (λ live. (refl, refl));
-    dead = only _ new_view (λ none. cc);
-  };
+  sizes = sizes_are new_words new_views refl (only _ new_view (λ live. (refl, refl))) (only _ new_view (λ none. cc));
   busy = only _ new_view (λ whole g h busy. absurd (omega arith));
   known = only _ new_view (λ p k. absurd (omega arith));
 }
@@ -197,27 +267,8 @@ mapped_root = record { is_linked = record { within = omega arith; placed = refl;
 mapped_table : IsLinkedAt 4 mapped_words mapped_views 1 (at 0 4)
 mapped_table = record { is_linked = record { within = omega arith; placed = refl; unprepared = refl }; at = refl }
 
-is_linked_at : (g : ℕ) (p : Position) → IsLinkedAt 4 mapped_words mapped_views g p → ((g ≡ 0) × (p ≡ at 1 0)) ⊎ ((g ≡ 1) × (p ≡ at 0 4))
-is_linked_at g p a = ⊎_elim
-    (λ (e : g ≡ 0). inl (e, sym a.at ∙ ap (λ (z : ℕ). placed_at (tag mapped_words z)) e))
-    (λ (e : g ≡ 1). inr (e, sym a.at ∙ ap (λ (z : ℕ). placed_at (tag mapped_words z)) e)) (mapped_linked g a.is_linked)
-
-mapped_tree : (p : Position) → IsTrue (is_in_tree 2 mapped_words mapped_views p) → (p ≡ at 1 0) ⊎ (p ≡ at 0 4)
-mapped_tree p e = ⊎_elim (λ (h : (1 ≤ p.level) × (p.base ≡ 0) × (p.level ≤ 1)). inl (same_position p (at 1 0) (omega arith) h.1))
-    (λ (h : 0 < total (has_table p) mapped_views). inr (is_same_true p (at 0 4) (true_bit (is_same p (at 0 4)) (omega arith)))) (tree_cases 2 mapped_words mapped_views p e)
-
-abbrev Right : ℕ → ℕ × Position → Type 0
-Right i x = entry_of small 4 mapped_words x.0 i ≡ total (has_word small x.1 i) mapped_views
-
--- the root's table has a child at its entry 1 alone, and the table at page 4 has none
-mapped_entries : (g i : ℕ) (p : Position) → IsLinkedAt 4 mapped_words mapped_views g p → i < 4 → has_child small 2 mapped_words mapped_views p i ≡ false →
-    entry_of small 4 mapped_words g i ≡ total (has_word small p i) mapped_views
-mapped_entries g i p a h none = ⊎_elim
-    (λ (e : (g ≡ 0) × (p ≡ at 1 0)). four (λ i. has_child small 2 mapped_words mapped_views p i ≡ false → entry_of small 4 mapped_words g i ≡ total (has_word small p i) mapped_views)
-    (λ _. subst (Right 0) (λ k. (sym e.0 k, sym e.1 k)) refl) (λ c. absurd (let d : true ≡ false = sym (ap (λ (q : Position). has_child small 2 mapped_words mapped_views q 1) e.1) ∙ c in cc))
-    (λ _. subst (Right 2) (λ k. (sym e.0 k, sym e.1 k)) refl) (λ _. subst (Right 3) (λ k. (sym e.0 k, sym e.1 k)) refl) i h none)
-    (λ (e : (g ≡ 1) × (p ≡ at 0 4)). subst (Right i) (λ k. (sym e.0 k, sym e.1 k)) (four (λ i. Right i (1, at 0 4)) refl refl refl refl i h))
-    (is_linked_at g p a)
+mapped_tables : (p : Position) → 0 < total (has_table p) mapped_views → p ≡ at 0 4
+mapped_tables p h = is_same_true p (at 0 4) (true_bit (is_same p (at 0 4)) (omega arith))
 
 -- a piece stands in a table of level 0, which has no child
 mapped_apart : (i : ℕ) (p : Position) → has_child small 2 mapped_words mapped_views p i ≡ true → total (has_piece small p i) mapped_views ≡ 0
@@ -241,33 +292,13 @@ mapped_lawful = record {
     at = only _ mapped_view tt;
     bridges = only _ mapped_view tt;
     cleared = λ g i h unlinked k. mapped_zero g h
-        (four (λ g. ¬ IsLinked 4 mapped_words mapped_views g → 2 ≤ g) (λ n. absurd (n mapped_root.is_linked)) (λ n. absurd (n mapped_table.is_linked)) (λ n. omega arith) (λ n. omega arith) g h unlinked) i k;
+        (unlinked_high mapped_words mapped_views mapped_linked mapped_root mapped_table refl mapped_tables refl refl refl g h unlinked) i k;
   };
-  positions = record {
-    distinct = λ g h a b e. four (λ g. (h : ℕ) → h < 4 → is_placed (tag mapped_words g) ≡ true → is_placed (tag mapped_words h) ≡ true → tag mapped_words g ≡ tag mapped_words h → g ≡ h)
-        (four (λ h. true ≡ true → is_placed (tag mapped_words h) ≡ true → 6 ≡ tag mapped_words h → 0 ≡ h) (λ a b e. refl) (λ a b e. absurd (omega arith)) (λ a b e. cc) (λ a b e. cc))
-        (four (λ h. true ≡ true → is_placed (tag mapped_words h) ≡ true → 130 ≡ tag mapped_words h → 1 ≡ h) (λ a b e. absurd (omega arith)) (λ a b e. refl) (λ a b e. cc) (λ a b e. cc))
-        (λ h l a b e. cc) (λ h l a b e. cc) g a.within h b.within a.placed b.placed e;
-    in_tree = λ g a. ⊎_elim (λ (e : g ≡ 0). subst (λ (z : ℕ). IsTrue (is_in_tree 2 mapped_words mapped_views (placed_at (tag mapped_words z)))) (sym e) refl)
-        (λ (e : g ≡ 1). subst (λ (z : ℕ). IsTrue (is_in_tree 2 mapped_words mapped_views (placed_at (tag mapped_words z)))) (sym e) refl) (mapped_linked g a);
-    all = λ p e. ⊎_elim (λ (h : p ≡ at 1 0). (0, subst (IsLinkedAt 4 mapped_words mapped_views 0) (sym h) mapped_root))
-        (λ (h : p ≡ at 0 4). (1, subst (IsLinkedAt 4 mapped_words mapped_views 1) (sym h) mapped_table)) (mapped_tree p e);
-  };
+  positions = two_positions mapped_words mapped_views mapped_linked mapped_root mapped_table refl mapped_tables refl refl refl;
   root = record { is_linked = mapped_root; greatest = only _ mapped_view (omega arith); reached = (0, mapped_view, refl, omega arith, refl) };
-  parents = record {
-    closed = λ p e other. ⊎_elim (λ (h : p ≡ at 1 0). absurd (other h))
-        (λ (h : p ≡ at 0 4). subst (λ (q : Position). IsTrue (is_in_tree 2 mapped_words mapped_views (parent_of small q))) (sym h) refl) (mapped_tree p e);
-    named = λ g h p a other b. ⊎_elim (λ (e : (h ≡ 0) × (p ≡ at 1 0)). absurd (other e.1))
-        (λ (e : (h ≡ 1) × (p ≡ at 0 4)). ⊎_elim
-        (λ (d : (g ≡ 0) × (parent_of small p ≡ at 1 0)).
-        subst (λ (x : ℕ × ℕ × Position). entry_of small 4 mapped_words x.0 (slot_of small x.2) ≡ small.pointer (x.2.level + 1) (frame_address small x.1))
-        (λ k. (sym d.0 k, sym e.0 k, sym e.1 k)) refl)
-        (λ (d : (g ≡ 1) × (parent_of small p ≡ at 0 4)). absurd (let z : 1 ≡ 0 = ap (λ (q : Position). (parent_of small q).level) (sym e.1) ∙ ap (λ (q : Position). q.level) d.1 in omega arith))
-        (is_linked_at g (parent_of small p) b))
-        (is_linked_at h p a);
-  };
+  parents = two_parents mapped_words mapped_views mapped_linked mapped_root mapped_table refl mapped_tables refl refl refl;
   entries = record {
-    words_are = mapped_entries;
+    words_are = two_entries mapped_words mapped_views mapped_linked mapped_root mapped_table refl mapped_tables refl refl refl refl refl refl (four (λ i. entry_of small 4 mapped_words 1 i ≡ total (has_word small (at 0 4) i) mapped_views) refl refl refl refl);
     apart = mapped_apart;
     once = λ i p. let b = bit_le (is_same p (at 0 4) && (1 == i)) in omega arith;
     homes = only _ mapped_view (refl, tt);
@@ -296,18 +327,7 @@ mapped_lawful = record {
     descends = (record { number = 1; within = omega arith; high = omega arith; is = refl }, tt);
   });
   purses = record { chained = only _ mapped_view (refl, tt); ends = only _ mapped_view tt };
-  sizes = record {
-    some_frame = omega arith;
-    limit = omega arith;
-    words_are = refl;
-    levels_low = omega arith;
-    levels_high = omega arith;
-    live = only _ mapped_view (λ live. (refl, refl));
-    dead = only _ mapped_view (λ none. cc);
-  };
+  sizes = sizes_are mapped_words mapped_views refl (only _ mapped_view (λ live. (refl, refl))) (only _ mapped_view (λ none. cc));
   busy = only _ mapped_view (λ whole. four (λ g. IsIn mapped_view.busy g → tag mapped_words g ≢ 0) (λ b e. omega arith) (λ b e. omega arith) (λ b e. omega arith) (λ b e. omega arith));
-  known = only _ mapped_view (λ p k. ⊎_elim
-      (λ (e : p ≡ at 0 4). subst NearTree (sym e) (refl, inr refl))
-      (λ (rest : IsAmong (at 1 0 ∷ []) p). ⊎_elim (λ (e : p ≡ at 1 0). subst NearTree (sym e) (refl, inl refl)) (λ (none : 0 < 0). absurd (omega arith)) (among_cases p (at 1 0) [] rest))
-      (among_cases p (at 0 4) (at 1 0 ∷ []) k));
+  known = only _ mapped_view (two_known NearTree (refl, inr refl) (refl, inl refl));
 }
