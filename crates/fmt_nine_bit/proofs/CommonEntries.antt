@@ -24,15 +24,17 @@ pub record AreCommon (of_leaf : Prot → ℕ) (of_pointer : ℕ) : Type 0 where
   pub few : of_leaf ReadWrite < 2 ^ 7
   pub pointer_few : of_pointer < 2 ^ 7
 
+-- what the manual says of a page of 2 ^ log2 bytes, in a table of its `level`
+abbrev pub IsPageForm : (entry_at : (level address bits : ℕ) → Step) → (level log2 bits : ℕ) → Prot → Type 0
+IsPageForm entry_at level log2 bits prot =
+    (address : ℕ) → is_aligned log2 address ≡ true → entry_at level address bits ≡ Page address log2 (may_read prot) (may_write prot)
+
 -- what the manual says of it, in each form
 pub record AreForms (entry_at : (level address bits : ℕ) → Step) (of_leaf : Prot → ℕ) (of_pointer : ℕ) : Type 0 where
   pub empty : (level : ℕ) → entry_at (level + 1) 0 0 ≡ NotPresent
-  pub small : (address : ℕ) (prot : Prot) → IsTrue (is_common prot) →
-      entry_at 1 address (of_leaf prot + 0) ≡ Page address 12 (may_read prot) (may_write prot)
-  pub large : (address : ℕ) (prot : Prot) → IsTrue (is_common prot) → is_aligned 21 address ≡ true →
-      entry_at 2 address (of_leaf prot + 2 ^ 7) ≡ Page address 21 (may_read prot) (may_write prot)
-  pub largest : (address : ℕ) (prot : Prot) → IsTrue (is_common prot) → is_aligned 30 address ≡ true →
-      entry_at 3 address (of_leaf prot + 2 ^ 7) ≡ Page address 30 (may_read prot) (may_write prot)
+  pub small : (prot : Prot) → IsTrue (is_common prot) → IsPageForm entry_at 1 12 (of_leaf prot + 0) prot
+  pub large : (prot : Prot) → IsTrue (is_common prot) → IsPageForm entry_at 2 21 (of_leaf prot + 2 ^ 7) prot
+  pub largest : (prot : Prot) → IsTrue (is_common prot) → IsPageForm entry_at 3 30 (of_leaf prot + 2 ^ 7) prot
   pub pointer : (level address : ℕ) → 0 < level → entry_at (level + 1) address of_pointer ≡ Next address true true
 
 module _ {of_leaf : Prot → ℕ} {of_pointer : ℕ} (common : AreCommon of_leaf of_pointer) where
@@ -63,9 +65,9 @@ module _ {of_leaf : Prot → ℕ} {of_pointer : ℕ} (common : AreCommon of_leaf
 
     a_page : (level out : ℕ) (prot : Prot) → level < 3 → out % 2 ^ (9 * level) ≡ 0 → IsTrue (is_common prot) →
         entry_at (level + 1) (out * 2 ^ 12) (of_leaf prot + size_bit level) ≡ Page (out * 2 ^ 12) (12 + 9 * level) (may_read prot) (may_write prot)
-    a_page zero out prot low aligned stated = forms.small (out * 2 ^ 12) prot stated
-    a_page (suc zero) out prot low aligned stated = forms.large (out * 2 ^ 12) prot stated (aligned_at 1 out low aligned)
-    a_page (suc (suc zero)) out prot low aligned stated = forms.largest (out * 2 ^ 12) prot stated (aligned_at 2 out low aligned)
+    a_page zero out prot low aligned stated = forms.small prot stated (out * 2 ^ 12) (aligned_at 0 out low aligned)
+    a_page (suc zero) out prot low aligned stated = forms.large prot stated (out * 2 ^ 12) (aligned_at 1 out low aligned)
+    a_page (suc (suc zero)) out prot low aligned stated = forms.largest prot stated (out * 2 ^ 12) (aligned_at 2 out low aligned)
     a_page (suc (suc (suc more))) out prot low aligned stated = absurd (omega arith)
 
     pub reads_written : ReadsWritten manual (entries_by manual is_common of_leaf of_pointer)

@@ -1,11 +1,11 @@
 -- Words of RISC-V tables, as code makes and reads them.
-use Rattle.std.proofs.Common.{◌≡◌, ◌≢◌, ℕ, zero, suc, ◌+◌, ◌-◌, ◌*◌, ◌/◌, ◌%◌, ◌^◌, ◌<◌, ◌≤◌, ◌↔◌, ◌⊎◌, inl, inr, refl, ap, sym, ◌∙◌, subst, arith, true, false}
-use Rattle.std.specs.Prelude.{IsTrue, bit_and, bit_or, IsBitSet, ◌==◌}
+use Rattle.std.proofs.Common.{◌≡◌, ◌≢◌, ℕ, zero, suc, ◌+◌, ◌-◌, ◌*◌, ◌/◌, ◌%◌, ◌^◌, ◌<◌, ◌≤◌, inl, inr, refl, ap, sym, ◌∙◌, subst, arith, true, false}
+use Rattle.std.specs.Prelude.{IsTrue, bit_and, bit_or, ◌==◌}
 use Rattle.std.specs.Int.Bits.{or_zero_l, and_zero_r}
 use Rattle.std.proofs.lemmas.Nat.{and_block, mod_below, mul-le, pow-add, pow_pos}
 use Rattle.pt_model.specs.declared.block.Prot.{Prot}
 use Rattle.pt_model.specs.Layout.{is_common, is_size, level_of_size, page}
-use Rattle.pt_format.specs.Words.{HasSizes, MayBeLeaf, MayBeLeaves, GoBy, IsLeaf, IsPointer, IsWritten, a_leaf, a_pointer}
+use Rattle.pt_format.specs.Words.{HasSizes, MayBeLeaves, GoBy, IsLeaf, IsPointer, IsWritten, a_leaf, a_pointer}
 use Rattle.pt_format.specs.Manual.{IsOutput}
 use Rattle.pt_format.proofs.BitFacts.{and_end, one_bit_set, or_bit, or_low}
 use Rattle.pt_format.proofs.Permissions.{of_common}
@@ -13,7 +13,7 @@ use Rattle.pt_manual.specs.RiscvWalk.{number_in}
 use Rattle.fmt_riscv.specs.RiscvWords.{AreLevels, IsPointerOf, IsSingle, IsSixteen, layout, leaf, of_leaf, pointer, single, sixteen}
 use Rattle.fmt_riscv.specs.Sizes.{IsSizeOf, an_entry, of_sixteen, entry_size, size_of, sixteen_size}
 use Rattle.fmt_riscv.specs.RiscvFacts.{leaf_of_entry, leaf_small, not_four}
-use Rattle.fmt_riscv.specs.RiscvLaws.{IsLeafWord, a_single, a_sixteen, few, leaf_found, leaf_word}
+use Rattle.fmt_riscv.specs.RiscvLaws.{a_single, a_sixteen, few, leaf_found, leaf_word}
 
 -- what is read back: the page number, and the bits below it
 pub single_number : {level out word : ℕ} {prot : Prot} → IsSingle level out word prot → number_in word ≡ out

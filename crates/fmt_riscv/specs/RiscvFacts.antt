@@ -1,15 +1,14 @@
 -- The words of RISC-V tables, to the manual and to code.
-use Rattle.std.proofs.Common.{◌≡◌, ◌≢◌, ℕ, zero, suc, ◌+◌, ◌-◌, ◌*◌, ◌/◌, ◌%◌, ◌^◌, ◌<◌, ◌≤◌, refl, ap, ap₂, sym, ◌∙◌, arith, true, false}
+use Rattle.std.proofs.Common.{◌≡◌, ◌≢◌, ℕ, zero, suc, ◌+◌, ◌-◌, ◌*◌, ◌/◌, ◌%◌, ◌^◌, ◌<◌, ◌≤◌, refl, ap, ap₂, ◌∙◌, arith, true, false}
 use Rattle.std.specs.Prelude.{IsTrue, nat_le, ◌==◌}
 use Rattle.std.proofs.lemmas.Bool.{eq-eqb, le-leb, ne_eqb}
 use Rattle.pt_model.specs.declared.block.Prot.{Prot}
-use Rattle.pt_model.specs.declared.block.Prot.TheVariants.{Read, ReadWrite}
 use Rattle.pt_model.specs.Layout.{is_common, may_read, may_write}
 use Rattle.pt_format.proofs.Permissions.{of_common}
 use Rattle.pt_manual.specs.EntryBits.{is_aligned}
 use Rattle.pt_manual.specs.RiscvWalk.{entry_at, is_sixteen, number_in, others_in, step_at}
 use Rattle.pt_manual.specs.declared.step.Step.TheVariants.{Page, Next}
-use Rattle.fmt_riscv.specs.RiscvWords.{IsPointerOf, leaf, of_leaf, pointer, single, sixteen}
+use Rattle.fmt_riscv.specs.RiscvWords.{IsPointerOf, leaf, of_leaf, single, sixteen}
 
 pub leaf_small : (prot : Prot) → IsTrue (is_common prot) → of_leaf prot < 2 ^ 10
 leaf_small = of_common (λ prot. of_leaf prot < 2 ^ 10) (omega arith) (omega arith)

@@ -1,23 +1,23 @@
 -- The laws of RISC-V tables, for each number of levels.
-use Rattle.std.proofs.Common.{◌≡◌, ◌≢◌, ℕ, zero, suc, ◌+◌, ◌-◌, ◌*◌, ◌/◌, ◌%◌, ◌^◌, ◌<◌, ◌≤◌, refl, ap, ap₂, subst, sym, ◌∙◌, arith, true, false}
+use Rattle.std.proofs.Common.{◌≡◌, ℕ, ◌+◌, ◌-◌, ◌*◌, ◌/◌, ◌%◌, ◌^◌, ◌<◌, ◌≤◌, refl, ap, ap₂, subst, sym, ◌∙◌, arith, false}
 use Rattle.std.specs.Prelude.{IsTrue}
 use Rattle.std.proofs.lemmas.Nat.{mod_below, mod-mul-add, pow_pos}
 use Rattle.std.proofs.Math.Nat.{div-add-mod}
-use Rattle.std.proofs.lemmas.Grind.{common_steps}
 use Rattle.pt_model.specs.declared.block.Prot.{Prot}
 use Rattle.pt_model.specs.declared.block.Prot.TheVariants.{Read, ReadWrite}
-use Rattle.pt_model.specs.Layout.{is_common, is_size, level_of_size, may_read, may_write, page, table}
-use Rattle.pt_format.specs.Words.{MayBeLeaf, IsLeaf, IsUnder}
+use Rattle.pt_model.specs.Layout.{is_common, is_size, level_of_size, may_read, may_write, page}
+use Rattle.pt_format.specs.Words.{MayBeLeaf, IsUnder}
 use Rattle.pt_format.specs.Laws.{HasConstants, IsLayout, WordsDiffer}
+use Rattle.pt_format.specs.FourKibLaws.{fixed_layout}
 use Rattle.pt_format.specs.Manual.{IsWalk, StepsAgree}
 use Rattle.pt_format.proofs.Permissions.{of_common}
 use Rattle.pt_manual.specs.RiscvWalk.{manual, step_at}
-use Rattle.pt_manual.specs.declared.step.Step.TheVariants.{Page, Next}
+use Rattle.pt_manual.specs.declared.step.Step.TheVariants.{Page}
 use Rattle.pt_manual.specs.Granting.{allowed}
 use Rattle.fmt_nine_bit.specs.OverPages.{found, found_page, step_by}
 use Rattle.fmt_nine_bit.specs.ManualLayout.{IsReadBy}
 use Rattle.fmt_nine_bit.proofs.NineBitWalks.{granted_is, walk_by_steps}
-use Rattle.fmt_riscv.specs.RiscvWords.{AreLevels, IsSingle, IsSixteen, three, four, five, leaf, layout, of_leaf, pointer, single, sixteen, words}
+use Rattle.fmt_riscv.specs.RiscvWords.{AreLevels, IsSingle, IsSixteen, three, four, five, leaf, layout, of_leaf, pointer, words}
 use Rattle.fmt_riscv.specs.Sizes.{IsSizeOf, an_entry, of_sixteen, size_of}
 use Rattle.fmt_riscv.specs.RiscvFacts.{leaf_of_entry, leaf_small, not_four, pointer_step, single_step, sixteen_step}
 
@@ -32,26 +32,9 @@ few (five e) = (omega arith, omega arith)
 
 pub lawful_layout : (levels : ℕ) → AreLevels levels → IsLayout (layout levels)
 lawful_layout levels are =
-    let low = (few are).0 in let high = (few are).1 in
-    record {
-      granule_low = omega arith;
-      granule_high = omega arith;
-      index_is = refl;
-      start_low = low;
-      start_high = omega arith;
-      fixed = λ e. refl;
-      levels_high = omega arith;
-      input_low = omega arith;
-      input_high = omega arith;
-      pages_high = omega arith;
-      has_levels = omega arith;
-      output_low = omega arith;
-      output_high = omega arith;
-      has_pages = has_page are;
-      sizes_low = λ k size. (size_of levels (level_of_size (layout levels) k) k are size refl).1;
-      states_read = refl;
-      states_both = refl;
-    }
+    let low = (few are).0 in
+    fixed_layout (layout levels) (11 + 9 * levels) 56 levels (has_constants levels) low (few are).1 (omega arith) (omega arith) (omega arith) (omega arith)
+    (has_page are) (λ k size. (size_of levels (level_of_size (layout levels) k) k are size refl).1) refl refl
   where
     has_page : AreLevels levels → IsTrue (is_size (layout levels) 0)
     has_page (three e) = subst (λ n. IsTrue (is_size (layout n) 0)) (sym e) refl

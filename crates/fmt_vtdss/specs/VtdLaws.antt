@@ -2,13 +2,12 @@
 use Rattle.std.proofs.Common.{◌≡◌, ℕ, ◌+◌, ◌*◌, ◌^◌, ◌<◌, refl, arith, true, false}
 use Rattle.std.specs.Prelude.{nat_le, ◌==◌}
 use Rattle.std.proofs.lemmas.Bool.{leb-true, le-leb, ne_eqb}
-use Rattle.pt_model.specs.Layout.{may_read, may_write}
 use Rattle.pt_format.specs.FourKib.{AreBits, AreRead, AreTables}
 use Rattle.pt_format.proofs.Permissions.{of_common}
-use Rattle.pt_manual.specs.declared.step.Step.TheVariants.{Page, Next}
+use Rattle.pt_manual.specs.declared.step.Step.TheVariants.{Next}
 use Rattle.pt_manual.specs.VtdWalk.{entry_at, manual}
 use Rattle.fmt_nine_bit.proofs.CommonEntries as Common
-use Rattle.fmt_nine_bit.proofs.CommonEntries.{AreCommon, AreForms}
+use Rattle.fmt_nine_bit.proofs.CommonEntries.{AreCommon, AreForms, IsPageForm}
 use Rattle.fmt_vtdss.specs.VtdWords.{entries, of_leaf, of_pointer, tables_of}
 
 are_common : AreCommon of_leaf of_pointer
@@ -24,11 +23,9 @@ a_pointer level address above =
 are_forms : AreForms entry_at of_leaf of_pointer
 are_forms = record {
   empty = λ level. refl;
-  small = λ address. of_common (λ p. entry_at 1 address (of_leaf p + 0) ≡ Page address 12 (may_read p) (may_write p)) refl refl;
-  large = λ address prot stated aligned.
-      of_common (λ p. entry_at 2 address (of_leaf p + 2 ^ 7) ≡ Page address 21 (may_read p) (may_write p)) (rw aligned refl) (rw aligned refl) prot stated;
-  largest = λ address prot stated aligned.
-      of_common (λ p. entry_at 3 address (of_leaf p + 2 ^ 7) ≡ Page address 30 (may_read p) (may_write p)) (rw aligned refl) (rw aligned refl) prot stated;
+  small = of_common (λ p. IsPageForm entry_at 1 12 (of_leaf p + 0) p) (λ address aligned. refl) (λ address aligned. refl);
+  large = of_common (λ p. IsPageForm entry_at 2 21 (of_leaf p + 2 ^ 7) p) (λ address aligned. rw aligned refl) (λ address aligned. rw aligned refl);
+  largest = of_common (λ p. IsPageForm entry_at 3 30 (of_leaf p + 2 ^ 7) p) (λ address aligned. rw aligned refl) (λ address aligned. rw aligned refl);
   pointer = a_pointer;
 }
 

@@ -15,16 +15,16 @@ of_common P read both ReadWrite stated = both
 -- The permission of a leaf by a bit that is set where writes are permitted, and not else.
 module _ (of_leaf : Prot → ℕ) (write : ℕ) (low : write < 2 ^ 7)
     (clear : (bit_and (of_leaf Read) write == write) ≡ false) (set : (bit_and (of_leaf ReadWrite) write == write) ≡ true) where
-  pub both_by_bit : (bits : ℕ) (prot : Prot) → IsTrue (is_common prot) → bits % 2 ^ 7 ≡ of_leaf prot →
-      (bit_and bits write == write) ≡ true → ReadWrite ≡ prot
-  both_by_bit bits prot stated is test =
+  pub both_by_bit : (bits : ℕ) → (bit_and bits write == write) ≡ true → (prot : Prot) → IsTrue (is_common prot) → bits % 2 ^ 7 ≡ of_leaf prot →
+      ReadWrite ≡ prot
+  both_by_bit bits test =
       of_common (λ p. bits % 2 ^ 7 ≡ of_leaf p → ReadWrite ≡ p)
       (λ e. absurd (both_ways _ (ap (λ n. n == write) (and_end 7 bits (of_leaf Read) write e low) ∙ clear) test))
-      (λ e. refl) prot stated is
+      (λ e. refl)
 
-  pub read_by_bit : (bits : ℕ) (prot : Prot) → IsTrue (is_common prot) → bits % 2 ^ 7 ≡ of_leaf prot →
-      (bit_and bits write == write) ≡ false → Read ≡ prot
-  read_by_bit bits prot stated is test =
+  pub read_by_bit : (bits : ℕ) → (bit_and bits write == write) ≡ false → (prot : Prot) → IsTrue (is_common prot) → bits % 2 ^ 7 ≡ of_leaf prot →
+      Read ≡ prot
+  read_by_bit bits test =
       of_common (λ p. bits % 2 ^ 7 ≡ of_leaf p → Read ≡ p)
       (λ e. refl)
-      (λ e. absurd (both_ways _ test (ap (λ n. n == write) (and_end 7 bits (of_leaf ReadWrite) write e low) ∙ set))) prot stated is
+      (λ e. absurd (both_ways _ test (ap (λ n. n == write) (and_end 7 bits (of_leaf ReadWrite) write e low) ∙ set)))

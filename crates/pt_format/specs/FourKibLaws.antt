@@ -1,10 +1,11 @@
 -- The laws of formats, for tables of 512 entries over pages of 4 KiB.
-use Rattle.std.proofs.Common.{◌≡◌, ◌≢◌, ℕ, zero, suc, ◌+◌, ◌-◌, ◌*◌, ◌%◌, ◌^◌, ◌<◌, ◌≤◌, refl, ap, ◌∙◌, arith, false}
+use Rattle.std.proofs.Common.{◌≡◌, ◌≢◌, ℕ, zero, suc, ◌+◌, ◌-◌, ◌*◌, ◌%◌, ◌^◌, ◌<◌, ◌≤◌, refl, ap, ◌∙◌, arith, false, ap₂}
 use Rattle.std.specs.Prelude.{IsTrue}
 use Rattle.std.proofs.lemmas.Nat.{pow_pos}
 use Rattle.std.proofs.lemmas.Grind.{common_steps}
 use Rattle.pt_model.specs.declared.block.Prot.{Prot}
-use Rattle.pt_model.specs.Layout.{is_size, level_of_size, page}
+use Rattle.pt_model.specs.declared.block.Prot.TheVariants.{Read, ReadWrite}
+use Rattle.pt_model.specs.Layout.{Layout, is_size, level_of_size, page}
 use Rattle.pt_format.specs.Words.{MayBeLeaf, IsUnder}
 use Rattle.pt_format.specs.Laws.{HasConstants, IsLayout, WordsDiffer}
 use Rattle.pt_format.specs.Manual.{StepsAgree}
@@ -19,28 +20,40 @@ pub size_of_level : (t : Tables) (level k : ℕ) → IsTrue (is_size (layout t) 
     (9 * level ≡ k) × (level < 3)
 size_of_level t level k size at = (grind (arith, common_steps), grind (arith, common_steps))
 
-pub lawful_layout : {t : Tables} → AreTables t → IsLayout (layout t)
-lawful_layout {t} good =
-    let low = good.levels_low in let high = good.levels_high in let some = good.input_low in let few = good.input_high in
+-- tables of 512 entries over pages of 4 KiB, of so many levels, are a layout where their sizes and permissions are
+pub fixed_layout : (f : Layout) (input output levels : ℕ) → HasConstants f 12 9 input output levels levels false false →
+    3 ≤ levels → levels ≤ 5 → 12 < input → input ≤ 12 + 9 * levels → 48 ≤ output → output ≤ 56 →
+    IsTrue (is_size f 0) → ((k : ℕ) → IsTrue (is_size f k) → level_of_size f k < f.start) → IsTrue (f.states Read) → IsTrue (f.states ReadWrite) →
+    IsLayout f
+fixed_layout f input output levels c low high some few low' high' pages sizes read both =
+    let granule = c.granule_is in let index = c.index_is in let input_is = c.input_is in let output_is = c.output_is in
+    let start = c.start_is in let levels_are = c.levels_is in
+    let room : f.index * f.levels ≡ 9 * levels = ap₂ (λ a b. a * b) index levels_are in
     record {
       granule_low = omega arith;
       granule_high = omega arith;
-      index_is = refl;
-      start_low = low;
+      index_is = omega arith;
+      start_low = omega arith;
       start_high = omega arith;
-      fixed = λ e. refl;
+      fixed = λ e. omega arith;
       levels_high = omega arith;
-      input_low = some;
+      input_low = omega arith;
       input_high = omega arith;
       pages_high = omega arith;
-      has_levels = few;
+      has_levels = omega arith;
       output_low = omega arith;
       output_high = omega arith;
-      has_pages = refl;
-      sizes_low = λ k size. grind (arith, common_steps);
-      states_read = good.bits.states_read;
-      states_both = good.bits.states_both;
+      has_pages = pages;
+      sizes_low = sizes;
+      states_read = read;
+      states_both = both;
     }
+
+pub lawful_layout : {t : Tables} → AreTables t → IsLayout (layout t)
+lawful_layout {t} good =
+    let low = good.levels_low in
+    fixed_layout (layout t) t.input 52 t.levels (has_constants t) low good.levels_high good.input_low good.input_high (omega arith) (omega arith)
+    refl (λ k size. grind (arith, common_steps)) good.bits.states_read good.bits.states_both
 
 pub size_small : (level : ℕ) → size_bit level ≤ 2 ^ 7
 size_small zero = omega arith

@@ -9,14 +9,14 @@ pub returns-then-contains-clause-of_leaf : goal.returns-then-contains-clause-of_
 returns-then-contains-clause-of_leaf c =
     let test : (bit_and c.args.word 4 == 4) ≡ true = cc (c.contains.ensures tt, c.from_bits_retain.ensures tt, c.if-contains.true) in
     record {
-      of_single = λ level out prot x. both_by_bit (λ p. of_leaf p % 2 ^ 7) 4 (omega arith) refl refl c.args.word prot x.stated (single_end x) test;
-      of_sixteen = λ out prot x. both_by_bit (λ p. of_leaf p % 2 ^ 7) 4 (omega arith) refl refl c.args.word prot x.stated (sixteen_end x) test;
+      of_single = λ level out prot x. both_by_bit (λ p. of_leaf p % 2 ^ 7) 4 (omega arith) refl refl c.args.word test prot x.stated (single_end x);
+      of_sixteen = λ out prot x. both_by_bit (λ p. of_leaf p % 2 ^ 7) 4 (omega arith) refl refl c.args.word test prot x.stated (sixteen_end x);
     }
 
 pub returns-else-contains-clause-of_leaf : goal.returns-else-contains-clause-of_leaf
 returns-else-contains-clause-of_leaf c =
     let test : (bit_and c.args.word 4 == 4) ≡ false = cc (c.contains.ensures tt, c.from_bits_retain.ensures tt, c.if-contains.false) in
     record {
-      of_single = λ level out prot x. read_by_bit (λ p. of_leaf p % 2 ^ 7) 4 (omega arith) refl refl c.args.word prot x.stated (single_end x) test;
-      of_sixteen = λ out prot x. read_by_bit (λ p. of_leaf p % 2 ^ 7) 4 (omega arith) refl refl c.args.word prot x.stated (sixteen_end x) test;
+      of_single = λ level out prot x. read_by_bit (λ p. of_leaf p % 2 ^ 7) 4 (omega arith) refl refl c.args.word test prot x.stated (single_end x);
+      of_sixteen = λ out prot x. read_by_bit (λ p. of_leaf p % 2 ^ 7) 4 (omega arith) refl refl c.args.word test prot x.stated (sixteen_end x);
     }

@@ -1,4 +1,4 @@
-use Rattle.std.proofs.Common.{◌≡◌, ◌∙◌, arith}
+use Rattle.std.proofs.Common.{◌≡◌, ◌∙◌}
 use Rattle.std.proofs.lemmas.Bool.{both_ways}
 use Rattle.fmt_riscv.proofs.RiscvCode.{single_number}
 use Rattle.fmt_riscv.proofs.words.read_single.Goals as goal

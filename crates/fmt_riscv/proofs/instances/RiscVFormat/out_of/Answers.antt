@@ -1,5 +1,4 @@
-use Rattle.std.proofs.Common.{◌∙◌, sym, ap, ◌+◌, ◌-◌, ◌%◌, ◌^◌, ◌*◌, subst}
-use Rattle.pt_format.specs.Manual.{IsOutput}
+use Rattle.std.proofs.Common.{◌∙◌, sym}
 use Rattle.fmt_riscv.proofs.RiscvCode.{single_output, single_within, sixteen_output}
 use Rattle.fmt_riscv.proofs.instances.RiscVFormat.out_of.Goals as goal
 

@@ -1,4 +1,3 @@
-use Rattle.std.proofs.Common.{◌≡◌}
 use Rattle.fmt_riscv.specs.RiscvLaws.{a_single, a_sixteen, leaf_word}
 use Rattle.fmt_riscv.proofs.instances.RiscVFormat.prot_of.Goals as goal
 

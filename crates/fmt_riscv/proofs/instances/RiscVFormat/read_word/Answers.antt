@@ -1,4 +1,4 @@
-use Rattle.std.proofs.Common.{◌≡◌, arith}
+use Rattle.std.proofs.Common.{arith}
 use Rattle.fmt_riscv.specs.RiscvLaws.{a_single, a_sixteen, leaf_word}
 use Rattle.fmt_riscv.proofs.RiscvCode.{single_leaf}
 use Rattle.fmt_riscv.proofs.instances.RiscVFormat.read_word.Goals as goal

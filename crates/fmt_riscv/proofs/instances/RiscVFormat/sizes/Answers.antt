@@ -1,4 +1,4 @@
-use Rattle.std.proofs.Common.{◌≡◌, sym, subst}
+use Rattle.std.proofs.Common.{sym, subst}
 use Rattle.pt_format.specs.Words.{HasSizes}
 use Rattle.fmt_riscv.specs.RiscvWords.{layout}
 use Rattle.fmt_riscv.proofs.RiscvCode.{high_mask, low_mask}

@@ -4,9 +4,7 @@ use Rattle.fmt_x86.specs.X86Words.{of_leaf}
 use Rattle.fmt_x86.proofs.entry.EntryEntryBits.permission.Goals as goal
 
 pub returns-then-contains-clause-of_leaf : goal.returns-then-contains-clause-of_leaf
-returns-then-contains-clause-of_leaf c = λ prot stated is.
-    both_by_bit of_leaf 2 (omega arith) refl refl c.args.self.now.0 prot stated is (sym (c.contains.ensures tt) ∙ c.if-contains.true)
+returns-then-contains-clause-of_leaf c = both_by_bit of_leaf 2 (omega arith) refl refl c.args.self.now.0 (sym (c.contains.ensures tt) ∙ c.if-contains.true)
 
 pub returns-else-contains-clause-of_leaf : goal.returns-else-contains-clause-of_leaf
-returns-else-contains-clause-of_leaf c = λ prot stated is.
-    read_by_bit of_leaf 2 (omega arith) refl refl c.args.self.now.0 prot stated is (sym (c.contains.ensures tt) ∙ c.if-contains.false)
+returns-else-contains-clause-of_leaf c = read_by_bit of_leaf 2 (omega arith) refl refl c.args.self.now.0 (sym (c.contains.ensures tt) ∙ c.if-contains.false)
