@@ -112,19 +112,15 @@ is_plain_byte x = not (x == 32) && not (x == 10)
 abbrev pub is_plain : List ℕ → Bool
 is_plain xs = list_all is_plain_byte xs
 
+fails : (b : Bool) → not b ≡ true → b ≡ false
+fails true e = absurd (never (sym (sym e)))
+fails false e = refl
+
 not_space : (x : ℕ) (xs : List ℕ) → is_plain (x ∷ xs) ≡ true → (x == 32) ≡ false
-not_space x xs h = step (x == 32) (both (not (x == 32)) (not (x == 10)) (both (is_plain_byte x) (is_plain xs) h).0).0
-  where
-    step : (b : Bool) → not b ≡ true → b ≡ false
-    step true e = absurd (never (sym (sym e)))
-    step false e = refl
+not_space x xs h = fails (x == 32) (both (not (x == 32)) (not (x == 10)) (both (is_plain_byte x) (is_plain xs) h).0).0
 
 not_feed : (x : ℕ) (xs : List ℕ) → is_plain (x ∷ xs) ≡ true → (x == 10) ≡ false
-not_feed x xs h = step (x == 10) (both (not (x == 32)) (not (x == 10)) (both (is_plain_byte x) (is_plain xs) h).0).1
-  where
-    step : (b : Bool) → not b ≡ true → b ≡ false
-    step true e = absurd (never (sym (sym e)))
-    step false e = refl
+not_feed x xs h = fails (x == 10) (both (not (x == 32)) (not (x == 10)) (both (is_plain_byte x) (is_plain xs) h).0).1
 
 plain_rest : (x : ℕ) (xs : List ℕ) → is_plain (x ∷ xs) ≡ true → is_plain xs ≡ true
 plain_rest x xs h = (both (is_plain_byte x) (is_plain xs) h).1

@@ -10,7 +10,8 @@ use pt_stream::one_number;
 
 /// No two lists of lines have one text, where a text can state their numbers.
 pub fn one_text()
-    ensures { (ls ms : List Line) → IsTrue (all_stated ls) → IsTrue (all_stated ms) → script_text ls ≡ script_text ms → ls ≡ ms }
+    ensures { (ls ms : List Line) → IsTrue (all_stated ls) → IsTrue (all_stated ms) →
+        script_text ls ≡ script_text ms → ls ≡ ms }
 {
     one_number();
 }

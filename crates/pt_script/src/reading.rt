@@ -178,7 +178,8 @@ fn format_in(rest: &[u8]) -> Option<Line>
     ensures found { IfSome result (λ l. words rest.now ≡ operands l) }
     ensures stated { IfSome result (λ l. IsTrue (is_stated l)) }
     ensures form { IfSome result (λ l. keyword_of l ≡ Keyword.Format) }
-    ensures none { IfNone result ((l : Line) → IsTrue (is_stated l) → keyword_of l ≡ Keyword.Format → words rest.now ≢ operands l) }
+    ensures none { IfNone result
+        ((l : Line) → IsTrue (is_stated l) → keyword_of l ≡ Keyword.Format → words rest.now ≢ operands l) }
 {
     let (name, rest) = split_word(rest);
     let Some(name) = name_in(name) else {
@@ -196,7 +197,8 @@ fn map_in(rest: &[u8]) -> Option<Line>
     ensures found { IfSome result (λ l. words rest.now ≡ operands l) }
     ensures stated { IfSome result (λ l. IsTrue (is_stated l)) }
     ensures form { IfSome result (λ l. keyword_of l ≡ Keyword.Map) }
-    ensures none { IfNone result ((l : Line) → IsTrue (is_stated l) → keyword_of l ≡ Keyword.Map → words rest.now ≢ operands l) }
+    ensures none { IfNone result
+        ((l : Line) → IsTrue (is_stated l) → keyword_of l ≡ Keyword.Map → words rest.now ≢ operands l) }
 {
     let (va, rest) = split_word(rest);
     let (pa, rest) = split_word(rest);
@@ -214,7 +216,8 @@ fn unmap_in(rest: &[u8]) -> Option<Line>
     ensures found { IfSome result (λ l. words rest.now ≡ operands l) }
     ensures stated { IfSome result (λ l. IsTrue (is_stated l)) }
     ensures form { IfSome result (λ l. keyword_of l ≡ Keyword.Unmap) }
-    ensures none { IfNone result ((l : Line) → IsTrue (is_stated l) → keyword_of l ≡ Keyword.Unmap → words rest.now ≢ operands l) }
+    ensures none { IfNone result
+        ((l : Line) → IsTrue (is_stated l) → keyword_of l ≡ Keyword.Unmap → words rest.now ≢ operands l) }
 {
     let (va, len) = split_word(rest);
     Some(Line::Unmap {

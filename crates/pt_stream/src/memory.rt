@@ -215,7 +215,8 @@ impl Sink for MemorySink {
         ensures bytes { WriteAppends (Some self.old.held) (Some self.new.held) result from.now }
         ensures cause { HasCause self.old.faults self.new.faults result }
 
-        ensures fails { IsErr result ↔ Contains self.old.failing (next_count self.old.calls) ⊎ (self.old.room ≡ length self.old.held) }
+        ensures fails { IsErr result ↔
+            Contains self.old.failing (next_count self.old.calls) ⊎ (self.old.room ≡ length self.old.held) }
         ensures piece { IfOk result (λ n. n ≡ min (min self.old.piece (length from.now)) (self.old.room - length self.old.held)) }
         ensures after { self.new ≡ after_put self.old from.now result }
     {
