@@ -27,6 +27,7 @@ use Rattle.pt_map.specs.Stands.{IsEntryExtent, IsExtentAt, IsOwnTable}
 use Rattle.pt_tile.specs.Extents.{tables_below, tables_of, tiles}
 use Rattle.pt_map.proofs.StandAfter.{at_inside, loads_keep}
 use Rattle.pt_map.proofs.AbsentCounted.{shown_right}
+use Rattle.pt_map.specs.Answers.{unknown}
 
 -- A load of an entry that was zero.
 record Shut (f : Layout) (tells : Type 0) (v : View) (p : Position) (number : ℕ) (w : View) : Type 0 where

@@ -1,5 +1,5 @@
 -- The pieces of blocks put among the pieces of a book are those of the blocks put among its blocks.
-use Rattle.std.proofs.Common.{◌≡◌, ℕ, zero, suc, ◌+◌, ◌-◌, ◌*◌, ◌^◌, ◌<◌, ◌≤◌, ◌⊎◌, List, [], ◌∷◌, ◌++◌, true, false, inl, inr, refl, ap, sym, subst, ◌∙◌, arith, append_assoc}
+use Rattle.std.proofs.Common.{◌≡◌, ℕ, zero, suc, ◌+◌, ◌-◌, ◌*◌, ◌^◌, ◌<◌, ◌≤◌, ◌⊎◌, List, [], ◌∷◌, ◌++◌, Bool, true, false, inl, inr, refl, ap, sym, subst, ◌∙◌, arith, append_assoc}
 use Rattle.std.specs.Prelude.{map, filter, not, nat_lt, nat_le, AllPairs, length, slice_index_or}
 use Rattle.std.specs.List.{range_with_len}
 use Rattle.std.proofs.lemmas.Bool.{lt-ltb, le-ltb, le-leb, lt-leb}
@@ -19,45 +19,33 @@ use Rattle.pt_tile.specs.Extents.{from}
 
 -- Pieces by their first pages: each at most at a page, each from a page on, each before a page, and rising from one.
 
+abbrev Each : Layout → (ℕ → Type 0) → List Piece → Type 0
+Each f P [] = Unit {0}
+Each f P (x ∷ xs) = P (first_of f x) × Each f P xs
+
 abbrev UpTo : Layout → ℕ → List Piece → Type 0
-UpTo f n [] = Unit {0}
-UpTo f n (x ∷ xs) = (first_of f x ≤ n) × UpTo f n xs
+UpTo f n xs = Each f (λ k. k ≤ n) xs
 
 abbrev From : Layout → ℕ → List Piece → Type 0
-From f n [] = Unit {0}
-From f n (x ∷ xs) = (n ≤ first_of f x) × From f n xs
+From f n xs = Each f (λ k. n ≤ k) xs
 
 abbrev Under : Layout → ℕ → List Piece → Type 0
-Under f n [] = Unit {0}
-Under f n (x ∷ xs) = (first_of f x < n) × Under f n xs
+Under f n xs = Each f (λ k. k < n) xs
 
 abbrev Rising : Layout → ℕ → List Piece → Type 0
 Rising f n [] = Unit {0}
 Rising f n (x ∷ xs) = (n ≤ first_of f x) × Rising f (first_of f x) xs
 
-up_to_more : (f : Layout) (m n : ℕ) (xs : List Piece) → m ≤ n → UpTo f m xs → UpTo f n xs
-up_to_more f m n [] le h = tt
-up_to_more f m n (x ∷ xs) le h = (let a = h.0 in omega arith, up_to_more f m n xs le h.1)
+each_more : (f : Layout) (P Q : ℕ → Type 0) (xs : List Piece) → ((k : ℕ) → P k → Q k) → Each f P xs → Each f Q xs
+each_more f P Q [] more h = tt
+each_more f P Q (x ∷ xs) more h = (more (first_of f x) h.0, each_more f P Q xs more h.1)
 
-up_to_append : (f : Layout) (n : ℕ) (xs ys : List Piece) → UpTo f n xs → UpTo f n ys → UpTo f n (xs ++ ys)
-up_to_append f n [] ys a b = b
-up_to_append f n (x ∷ xs) ys a b = (a.0, up_to_append f n xs ys a.1 b)
-
-from_append : (f : Layout) (n : ℕ) (xs ys : List Piece) → From f n xs → From f n ys → From f n (xs ++ ys)
-from_append f n [] ys a b = b
-from_append f n (x ∷ xs) ys a b = (a.0, from_append f n xs ys a.1 b)
-
-under_more : (f : Layout) (m n : ℕ) (xs : List Piece) → m ≤ n → Under f m xs → Under f n xs
-under_more f m n [] le h = tt
-under_more f m n (x ∷ xs) le h = (let a = h.0 in omega arith, under_more f m n xs le h.1)
+each_append : (f : Layout) (P : ℕ → Type 0) (xs ys : List Piece) → Each f P xs → Each f P ys → Each f P (xs ++ ys)
+each_append f P [] ys a b = b
+each_append f P (x ∷ xs) ys a b = (a.0, each_append f P xs ys a.1 b)
 
 under_up_to : (f : Layout) (n : ℕ) (xs : List Piece) → Under f n xs → UpTo f n xs
-under_up_to f n [] h = tt
-under_up_to f n (x ∷ xs) h = (let a = h.0 in omega arith, under_up_to f n xs h.1)
-
-under_append : (f : Layout) (n : ℕ) (xs ys : List Piece) → Under f n xs → Under f n ys → Under f n (xs ++ ys)
-under_append f n [] ys a b = b
-under_append f n (x ∷ xs) ys a b = (a.0, under_append f n xs ys a.1 b)
+under_up_to f n xs h = each_more f (λ k. k < n) (λ k. k ≤ n) xs (λ k less. omega arith) h
 
 rising_lower : (f : Layout) (m n : ℕ) (xs : List Piece) → m ≤ n → Rising f n xs → Rising f m xs
 rising_lower f m n [] le h = tt
@@ -87,9 +75,9 @@ puts_between : (f : Layout) (lo hi : ℕ) (zs xs ys : List Piece) → UpTo f lo 
     add_pieces f (xs ++ ys) zs ≡ xs ++ (zs ++ ys)
 puts_between f lo hi [] xs ys before after rising under = refl
 puts_between f lo hi (z ∷ zs) xs ys before after rising under =
-    let up : UpTo f (first_of f z) xs = up_to_more f lo (first_of f z) xs rising.0 before in
+    let up : UpTo f (first_of f z) xs = each_more f (λ k. k ≤ lo) (λ k. k ≤ first_of f z) xs (λ k less. let from = rising.0 in omega arith) before in
     let here : add_piece f (xs ++ ys) z ≡ (xs ++ z ∷ []) ++ ys = put_between f hi xs ys z up after under.0 ∙ sym (append_assoc xs (z ∷ []) ys) in
-    let wider : UpTo f (first_of f z) (xs ++ z ∷ []) = up_to_append f (first_of f z) xs (z ∷ []) up (omega arith, tt) in
+    let wider : UpTo f (first_of f z) (xs ++ z ∷ []) = each_append f (λ k. k ≤ first_of f z) xs (z ∷ []) up (omega arith, tt) in
     ap (λ (ps : List Piece). add_pieces f ps zs) here
     ∙ puts_between f (first_of f z) hi zs (xs ++ z ∷ []) ys wider after rising.1 under.1
     ∙ append_assoc xs (z ∷ []) (zs ++ ys)
@@ -157,7 +145,7 @@ tiles_under f good prot s out left (b ∷ bs) t =
     let first : b.first ≡ s = ap (λ (c : Block). c.first) t.0 in
     let fits = t.1.fits in
     let ends : s + 2 ^ b.log2 + (left - 2 ^ b.log2) ≡ s + left = omega arith in
-    under_append f (s + left) (pieces_of f b) (all_pieces f bs) (pieces_under good b (s + left) (omega arith))
+    each_append f (λ k. k < s + left) (pieces_of f b) (all_pieces f bs) (pieces_under good b (s + left) (omega arith))
     (subst (λ (n : ℕ). Under f n (all_pieces f bs)) ends (tiles_under f good prot (s + 2 ^ b.log2) (out + 2 ^ b.log2) (left - 2 ^ b.log2) bs t.2))
 
 -- Blocks by their first pages.
@@ -177,30 +165,14 @@ tiles_start f prot lo s out left (b ∷ bs) from t =
       subst (λ (n : ℕ). StartWithin lo n bs) ends (tiles_start f prot lo (s + 2 ^ b.log2) (out + 2 ^ b.log2) (left - 2 ^ b.log2) bs (omega arith) t.2),
     )
 
--- a test of first pages keeps all blocks, and keeps none
-keeps_all : (n lo hi : ℕ) (bs : List Block) → hi ≤ n → StartWithin lo hi bs → filter (λ (b : Block). nat_lt b.first n) bs ≡ bs
-keeps_all n lo hi [] h w = refl
-keeps_all n lo hi (b ∷ bs) h w =
-    let t : nat_lt b.first n ≡ true = lt-ltb b.first n (let a = w.1 in omega arith) in
-    rw t (ap (λ (cs : List Block). b ∷ cs) (keeps_all n lo hi bs h w.2))
+-- a test keeps all blocks, and keeps none
+keeps_all : (t : Block → Bool) (lo hi : ℕ) (bs : List Block) → ((b : Block) → lo ≤ b.first → b.first < hi → t b ≡ true) → StartWithin lo hi bs → filter t bs ≡ bs
+keeps_all t lo hi [] holds w = refl
+keeps_all t lo hi (b ∷ bs) holds w = rw (holds b w.0 w.1) (ap (λ (cs : List Block). b ∷ cs) (keeps_all t lo hi bs holds w.2))
 
-keeps_none : (n lo hi : ℕ) (bs : List Block) → n ≤ lo → StartWithin lo hi bs → filter (λ (b : Block). nat_lt b.first n) bs ≡ []
-keeps_none n lo hi [] h w = refl
-keeps_none n lo hi (b ∷ bs) h w =
-    let t : nat_lt b.first n ≡ false = le-ltb b.first n (let a = w.0 in omega arith) in
-    rw t (keeps_none n lo hi bs h w.2)
-
-others_all : (n lo hi : ℕ) (bs : List Block) → n ≤ lo → StartWithin lo hi bs → filter (λ (b : Block). not (nat_lt b.first n)) bs ≡ bs
-others_all n lo hi [] h w = refl
-others_all n lo hi (b ∷ bs) h w =
-    let t : nat_lt b.first n ≡ false = le-ltb b.first n (let a = w.0 in omega arith) in
-    rw t (ap (λ (cs : List Block). b ∷ cs) (others_all n lo hi bs h w.2))
-
-others_none : (n lo hi : ℕ) (bs : List Block) → hi ≤ n → StartWithin lo hi bs → filter (λ (b : Block). not (nat_lt b.first n)) bs ≡ []
-others_none n lo hi [] h w = refl
-others_none n lo hi (b ∷ bs) h w =
-    let t : nat_lt b.first n ≡ true = lt-ltb b.first n (let a = w.1 in omega arith) in
-    rw t (others_none n lo hi bs h w.2)
+keeps_none : (t : Block → Bool) (lo hi : ℕ) (bs : List Block) → ((b : Block) → lo ≤ b.first → b.first < hi → t b ≡ false) → StartWithin lo hi bs → filter t bs ≡ []
+keeps_none t lo hi [] fails w = refl
+keeps_none t lo hi (b ∷ bs) fails w = rw (fails b w.0 w.1) (keeps_none t lo hi bs fails w.2)
 
 adds_none : (bs : List Block) → add_blocks bs [] ≡ bs
 adds_none [] = refl
@@ -226,7 +198,7 @@ module _ {f : Layout} (good : IsLayout f) where
   pieces_from n [] h = tt
   pieces_from n (b ∷ bs) h =
       let low = h.0 in
-      from_append f n (pieces_of f b) (all_pieces f bs) (rising_from f n (pieces_of f b) (pieces_rise good b n h.0))
+      each_append f (λ k. n ≤ k) (pieces_of f b) (all_pieces f bs) (rising_from f n (pieces_of f b) (pieces_rise good b n h.0))
       (pieces_from n bs (in_order_lower n (end_of b) bs (omega arith) h.1))
 
   adds_behind : (prot : Prot) (s out left n : ℕ) (new : List Block) → IsTiling f prot s out left new → (old : List Block) (before : List Piece) →
@@ -240,10 +212,10 @@ module _ {f : Layout} (good : IsLayout f) where
         let starts = tiles_start f prot s s out left new (omega arith) t in
         let low : b.first ≤ s = omega arith in
         let blocks : add_blocks (b ∷ bs) new ≡ b ∷ add_blocks bs new =
-        ap (λ (cs : List Block). cs ++ (b ∷ add_blocks bs (filter (λ (n : Block). not (nat_lt n.first b.first)) new))) (keeps_none b.first s (s + left) new low starts)
-        ∙ ap (λ (cs : List Block). b ∷ add_blocks bs cs) (others_all b.first s (s + left) new low starts) in
+        ap (λ (cs : List Block). cs ++ (b ∷ add_blocks bs (filter (λ (n : Block). not (nat_lt n.first b.first)) new))) (keeps_none (λ c. nat_lt c.first b.first) s (s + left) new (λ c from to. le-ltb c.first b.first (omega arith)) starts)
+        ∙ ap (λ (cs : List Block). b ∷ add_blocks bs cs) (keeps_all (λ c. not (nat_lt c.first b.first)) s (s + left) new (λ c from to. ap not (le-ltb c.first b.first (omega arith))) starts) in
         let more : UpTo f s (before ++ pieces_of f b) =
-        up_to_append f s before (pieces_of f b) up (under_up_to f s (pieces_of f b) (pieces_under good b s earlier)) in
+        each_append f (λ k. k ≤ s) before (pieces_of f b) up (under_up_to f s (pieces_of f b) (pieces_under good b s earlier)) in
         ap (λ (xs : List Piece). add_pieces f xs (all_pieces f new)) (sym (append_assoc before (pieces_of f b) (all_pieces f bs)))
         ∙ adds_behind prot s out left (end_of b) new t bs (before ++ pieces_of f b) order.1 apart.1 more
         ∙ append_assoc before (pieces_of f b) (all_pieces f (add_blocks bs new))
@@ -251,8 +223,8 @@ module _ {f : Layout} (good : IsLayout f) where
     | inr later ↦
         let starts = tiles_start f prot s s out left new (omega arith) t in
         let blocks : add_blocks (b ∷ bs) new ≡ new ++ (b ∷ bs) =
-        ap (λ (cs : List Block). cs ++ (b ∷ add_blocks bs (filter (λ (n : Block). not (nat_lt n.first b.first)) new))) (keeps_all b.first s (s + left) new later starts)
-        ∙ ap (λ (cs : List Block). new ++ (b ∷ add_blocks bs cs)) (others_none b.first s (s + left) new later starts)
+        ap (λ (cs : List Block). cs ++ (b ∷ add_blocks bs (filter (λ (n : Block). not (nat_lt n.first b.first)) new))) (keeps_all (λ c. nat_lt c.first b.first) s (s + left) new (λ c from to. lt-ltb c.first b.first (omega arith)) starts)
+        ∙ ap (λ (cs : List Block). new ++ (b ∷ add_blocks bs cs)) (keeps_none (λ c. not (nat_lt c.first b.first)) s (s + left) new (λ c from to. ap not (lt-ltb c.first b.first (omega arith))) starts)
         ∙ ap (λ (cs : List Block). new ++ (b ∷ cs)) (adds_none bs) in
         puts_between f s (s + left) (all_pieces f new) before (all_pieces f (b ∷ bs)) up
         (pieces_from (s + left) (b ∷ bs) (later, order.1)) (tiles_rise f good prot s out left new t) (tiles_under f good prot s out left new t)

@@ -1,62 +1,25 @@
 -- The lacking positions, and the frames that are spent on them.
-use Rattle.std.proofs.Common.{◌≡◌, ℕ, ◌+◌, ◌≤◌, List, [], ◌∷◌, ◌++◌, length, true, false, inl, inr, refl, ap, sym, ◌∙◌, arith, append_assoc, length-append}
-use Rattle.std.specs.Prelude.{◌⊎◌}
+use Rattle.std.proofs.Common.{◌≡◌, ℕ, ◌+◌, ◌<◌, ◌≤◌, List, [], ◌∷◌, ◌++◌, length, true, false, inl, inr, refl, ap, sym, ◌∙◌, arith, append_assoc, length-append}
+use Rattle.std.specs.Prelude.{◌⊎◌, filter, not}
 use Rattle.std.proofs.lemmas.Bool.{cases_Bool}
 use Rattle.pt_model.specs.declared.position.Position.{Position}
 use Rattle.pt_model.specs.Tables.{is_same, needed}
-use Rattle.pt_model.proofs.Positions.{is_same_true}
+use Rattle.pt_model.proofs.Positions.{among_filtered, among_passes, filter_fewer, is_same_self, same_cases}
 use Rattle.pt_view.specs.declared.view.View.{View}
-use Rattle.pt_model.specs.Sets.{IsAmong, one_if, places}
+use Rattle.pt_model.specs.Sets.{IsAmong}
 use Rattle.pt_map.specs.Filled.{HasRoom, Spends}
 
--- a list without the first place of a position
+-- a list without a position
 abbrev pub without : Position → List Position → List Position
-without p [] = []
-without p (q ∷ qs) = elim (is_same p q) [ true ↦ qs | false ↦ q ∷ without p qs ]
+without p ps = filter (λ q. not (is_same p q)) ps
 
-without_here : (p q : Position) (qs : List Position) → is_same p q ≡ true → without p (q ∷ qs) ≡ qs
-without_here p q qs e = rw (e, without) refl
+without_length : (p : Position) (ps : List Position) → IsAmong ps p → length (without p ps) < length ps
+without_length p ps h = filter_fewer (λ q. not (is_same p q)) ps p h (ap not (is_same_self p p refl))
 
-without_later : (p q : Position) (qs : List Position) → is_same p q ≡ false → without p (q ∷ qs) ≡ q ∷ without p qs
-without_later p q qs e = rw (e, without) refl
-
-pub without_length : (p : Position) (ps : List Position) → IsAmong ps p → length (without p ps) + 1 ≡ length ps
-without_length p [] h = absurd (omega arith)
-without_length p (q ∷ qs) h = elim (cases_Bool (is_same p q)) [
-  | inl e ↦ omega (arith, ap length (without_here p q qs e))
-  | inr e ↦
-      let none : one_if (is_same p q) ≡ 0 = ap one_if e in
-      let rest : length (without p qs) + 1 ≡ length qs = without_length p qs (omega arith) in omega (arith, ap length (without_later p q qs e))
-]
-
-pub without_only : (p : Position) (ps : List Position) (r : Position) → IsAmong (without p ps) r → IsAmong ps r
-without_only p [] r h = h
-without_only p (q ∷ qs) r h = elim (cases_Bool (is_same p q)) [
-  | inl e ↦ omega (arith, ap (places r) (without_here p q qs e))
-  | inr e ↦ elim (cases_Bool (is_same r q)) [
-    | inl here ↦ (let one : one_if (is_same r q) ≡ 1 = ap one_if here in omega arith)
-    | inr there ↦
-        let none : one_if (is_same r q) ≡ 0 = ap one_if there in
-        let rest : IsAmong qs r = without_only p qs r (omega (arith, ap (places r) (without_later p q qs e))) in omega arith
-  ]
-]
-
-pub without_each : (p : Position) (ps : List Position) (r : Position) → IsAmong ps r → (r ≡ p) ⊎ IsAmong (without p ps) r
-without_each p [] r h = absurd (omega arith)
-without_each p (q ∷ qs) r h = elim (cases_Bool (is_same r q)) [
-  | inl here ↦ elim (cases_Bool (is_same p q)) [
-    | inl e ↦ inl (is_same_true r q here ∙ sym (is_same_true p q e))
-    | inr e ↦ inr (let one : one_if (is_same r q) ≡ 1 = ap one_if here in omega (arith, ap (places r) (without_later p q qs e)))
-  ]
-  | inr there ↦
-      let none : one_if (is_same r q) ≡ 0 = ap one_if there in
-      elim (cases_Bool (is_same p q)) [
-        | inl e ↦ inr (omega (arith, ap (places r) (without_here p q qs e)))
-        | inr e ↦ elim (without_each p qs r (omega arith)) [
-          | inl same ↦ inl same
-          | inr more ↦ inr (omega (arith, ap (places r) (without_later p q qs e)))
-        ]
-      ]
+without_each : (p : Position) (ps : List Position) (r : Position) → IsAmong ps r → (r ≡ p) ⊎ IsAmong (without p ps) r
+without_each p ps r h = elim (same_cases p r) [
+  | inl same ↦ inl (sym same)
+  | inr other ↦ inr (among_passes (λ q. not (is_same p q)) ps r h (ap not other))
 ]
 
 -- nothing is spent
@@ -75,8 +38,8 @@ pub spends_one : (v w : View) (lacking : List Position) (p : Position) (used : L
 spends_one v w lacking p used one purse lacks known = record {
   used = used;
   purse = purse;
-  few = omega (arith, without_length p lacking lacks);
-  only = λ r h. without_only p lacking r h;
+  few = (let fewer = without_length p lacking lacks in omega arith);
+  only = λ r h. (among_filtered (λ q. not (is_same p q)) lacking r h).0;
   each = λ r h. elim (without_each p lacking r h) [ inl e ↦ inl (rw e known) | inr more ↦ inr more ];
 }
 

@@ -9,7 +9,7 @@ use Rattle.pt_model.specs.declared.position.Position.{Position}
 use Rattle.pt_model.specs.Layout.{Layout}
 use Rattle.pt_model.specs.Pages.{byte_at}
 use Rattle.pt_model.specs.Sets.{IsSorted, IsAmong, one_if}
-use Rattle.pt_model.specs.Tables.{is_same, is_spine, position_over}
+use Rattle.pt_model.specs.Tables.{is_same, position_over}
 use Rattle.pt_tile.proofs.Begun.{aligned_sum, coarse_is_fine}
 use Rattle.pt_format.specs.Laws.{IsLayout}
 use Rattle.pt_view.specs.declared.view.View.{View}
@@ -29,11 +29,11 @@ use Rattle.pt_walk.specs.Walks.{IsFree, IsLowest, OwnsAll}
 use Rattle.pt_tile.specs.declared.extent.Extent.{Extent}
 use Rattle.pt_map.specs.declared.refused.MapRefused.{MapRefused}
 use Rattle.pt_map.specs.Absent.{Counted, is_shown}
-use Rattle.pt_map.specs.Answers.{FindsEach, IsRefused}
+use Rattle.pt_map.specs.Answers.{FindsEach, IsRefused, lacking}
 use Rattle.pt_map.specs.Filled.{HasNoPiece, MayStore, Fills, MayFill, HasRoom}
 use Rattle.pt_map.specs.Requests.{Gathered, IsLackOf, LacksFrames, MappedBelow, MayMapBelow, HasFrames, RefusedBelow}
-use Rattle.pt_map.proofs.TablesAfter.{no_table_in}
-use Rattle.pt_tile.specs.Extents.{tables_below, tiles}
+use Rattle.pt_map.proofs.TablesAfter.{gains_on, no_table_in}
+use Rattle.pt_tile.specs.Extents.{tables_below, tables_of, tiles}
 use Rattle.pt_map.proofs.StandAfter.{stands_moves}
 use Rattle.pt_tile.proofs.FirstParts.{tile_of}
 use Rattle.pt_map.proofs.AbsentCounted.{shown_left}
@@ -251,16 +251,7 @@ module _ {f : Layout} (good : IsLayout f) {tells : Type 0} {v c g : View} {x : E
             end = filled.end ∙ gathered.place.end ∙ walked.purse.end;
             top = filled.top ∙ book_kept.top;
             pieces = filled.pieces ∙ ap (λ (ps : List Piece). add_pieces f ps (all_pieces f (tiles f x))) book_kept.pieces;
-            tables = λ p. (
-              λ h. elim ((filled.tables p).0 h) [
-                | inl old ↦ inl (subst (λ (ps : List Position). IsAmong ps p) book_kept.tables old)
-                | inr new ↦ inr (new.0, subst (λ (l : ℕ). is_spine l p ≡ false) range_kept.levels new.1)
-              ],
-              λ h. (filled.tables p).1 (elim h [
-                | inl old ↦ inl (subst (λ (ps : List Position). IsAmong ps p) (sym book_kept.tables) old)
-                | inr new ↦ inr (new.0, subst (λ (l : ℕ). is_spine l p ≡ false) (sym range_kept.levels) new.1)
-              ]),
-            );
+            tables = λ p. gains_on v g w.tables (tables_of f x) p book_kept.tables range_kept.levels (filled.tables p);
             in_order = λ s. filled.in_order (subst (λ (ps : List Position). IsSorted ps) (sym book_kept.tables) s);
             busy = λ frame h. (filled.busy frame).1 (busy_kept frame h);
             known = λ p h. filled.known p (known_kept p h);

@@ -32,7 +32,7 @@ use Rattle.pt_map.proofs.AbsentCounted.{shown_right}
 use Rattle.pt_map.proofs.BlocksAdded.{Apart, adds_pieces, in_order_from}
 use Rattle.pt_map.proofs.FirstMapped.{first_mapped, free_apart, none_mapped}
 use Rattle.pt_map.proofs.LackingTables.{absent_all, absent_few, absent_most, absent_shown, tables_more}
-use Rattle.pt_map.proofs.TablesAfter.{full_after, tables_after}
+use Rattle.pt_map.proofs.TablesAfter.{full_after, gains_on, tables_after}
 use Rattle.pt_tile.specs.Extents.{IsExtent, tables_below, tables_of, tiles}
 use Rattle.pt_map.specs.Stands.{IsOwnTable}
 use Rattle.pt_tile.proofs.FirstSizes.{extent_tiling}
@@ -127,16 +127,7 @@ module _ {f : Layout} (good : IsLayout f) {tells : Type 0} {v d : View} {blocks 
     pieces_after = m.pieces ∙ ap (λ (ps : List Piece). add_pieces f ps (all_pieces f (tiles f x))) stand.walked.book.pieces
 
     tables_same : (p : Position) → IsAmong w.tables p ↔ (IsAmong v.tables p ⊎ (IsAmong (tables_of f x) p × (is_spine v.levels p ≡ false)))
-    tables_same p = (
-      λ h. elim ((m.tables p).0 h) [
-        | inl old ↦ inl (subst (λ (ps : List Position). IsAmong ps p) stand.walked.book.tables old)
-        | inr new ↦ inr (new.0, subst (λ (l : ℕ). is_spine l p ≡ false) stand.walked.range.levels new.1)
-      ],
-      λ h. (m.tables p).1 (elim h [
-        | inl old ↦ inl (subst (λ (ps : List Position). IsAmong ps p) (sym stand.walked.book.tables) old)
-        | inr new ↦ inr (new.0, subst (λ (l : ℕ). is_spine l p ≡ false) (sym stand.walked.range.levels) new.1)
-      ]),
-    )
+    tables_same p = gains_on v d w.tables (tables_of f x) p stand.walked.book.tables stand.walked.range.levels (m.tables p)
 
     sorted_after : IsSorted w.tables
     sorted_after = m.in_order (subst (λ (ps : List Position). IsSorted ps) (sym stand.walked.book.tables) stand.sorted)

@@ -32,21 +32,6 @@ abbrev pub AnyNeeds : Layout → (levels : ℕ) → List Block → Position → 
 AnyNeeds f levels [] p = ⊥
 AnyNeeds f levels (b ∷ bs) p = IsAmong (needed f levels b) p ⊎ AnyNeeds f levels bs p
 
-any_either : (f : Layout) (l : ℕ) (xs ys : List Block) (p : Position) → AnyNeeds f l (xs ++ ys) p → AnyNeeds f l xs p ⊎ AnyNeeds f l ys p
-any_either f l [] ys p h = inr h
-any_either f l (x ∷ xs) ys p h = elim h [
-  | inl m ↦ inl (inl m)
-  | inr more ↦ elim (any_either f l xs ys p more) [ inl a ↦ inl (inr a) | inr b ↦ inr b ]
-]
-
-any_left : (f : Layout) (l : ℕ) (xs ys : List Block) (p : Position) → AnyNeeds f l xs p → AnyNeeds f l (xs ++ ys) p
-any_left f l [] ys p h = absurd h
-any_left f l (x ∷ xs) ys p h = elim h [ inl m ↦ inl m | inr more ↦ inr (any_left f l xs ys p more) ]
-
-any_right : (f : Layout) (l : ℕ) (xs ys : List Block) (p : Position) → AnyNeeds f l ys p → AnyNeeds f l (xs ++ ys) p
-any_right f l [] ys p h = h
-any_right f l (x ∷ xs) ys p h = inr (any_right f l xs ys p h)
-
 -- the members of what all blocks need
 
 from_any : (f : Layout) (l : ℕ) (bs : List Block) (ps : List Position) (p : Position) → IsAmong (all_from f l ps bs) p → IsAmong ps p ⊎ AnyNeeds f l bs p
@@ -72,13 +57,15 @@ any_needs f l bs p h = (any_from f l bs [] p (inr h))
 -- two runs of blocks need what each of them needs
 pub needs_append : (f : Layout) (l : ℕ) (xs ys : List Block) (p : Position) →
     IsAmong (all_needed f l (xs ++ ys)) p ↔ (IsAmong (all_needed f l xs) p ⊎ IsAmong (all_needed f l ys) p)
-needs_append f l xs ys p = (
-  (λ h. elim (any_either f l xs ys p (needs_any f l (xs ++ ys) p h)) [ inl a ↦ inl (any_needs f l xs p a) | inr b ↦ inr (any_needs f l ys p b) ]),
-  (λ h. any_needs f l (xs ++ ys) p (elim h [
-    | inl a ↦ any_left f l xs ys p (needs_any f l xs p a)
-    | inr b ↦ any_right f l xs ys p (needs_any f l ys p b)
-  ])),
-)
+needs_append f l xs ys p =
+    let both : all_needed f l (xs ++ ys) ≡ all_from f l (all_needed f l xs) ys = from_append f l xs ys [] in (
+      (λ h. elim (from_any f l ys (all_needed f l xs) p (subst (λ (ps : List Position). IsAmong ps p) both h)) [ inl a ↦ inl a | inr b ↦ inr (any_needs f l ys p b) ]),
+      (λ h. subst (λ (ps : List Position). IsAmong ps p) (sym both) (any_from f l ys (all_needed f l xs) p (elim h [ inl a ↦ inl a | inr b ↦ inr (needs_any f l ys p b) ]))),
+    )
+  where
+    from_append : (f : Layout) (l : ℕ) (xs ys : List Block) (ps : List Position) → all_from f l ps (xs ++ ys) ≡ all_from f l (all_from f l ps xs) ys
+    from_append f l [] ys ps = refl
+    from_append f l (x ∷ xs) ys ps = from_append f l xs ys (add_positions ps (needed f l x))
 
 -- what blocks need is in order, and each position is there once
 

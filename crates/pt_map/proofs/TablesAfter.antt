@@ -24,6 +24,13 @@ use Rattle.pt_map.proofs.FirstMapped.{piece_of_block}
 use Rattle.pt_tile.specs.Extents.{IsExtent, IsOneBlock, tables_of, tiles}
 use Rattle.pt_tile.proofs.FirstParts.{tile_of}
 
+-- what tables gain by a list of positions, from those of a view of the same tables and levels before
+pub gains_on : (v w : View) (after needed : List Position) (p : Position) → w.tables ≡ v.tables → w.levels ≡ v.levels → IsAmong after p ↔ (IsAmong w.tables p ⊎ (IsAmong needed p × (is_spine w.levels p ≡ false))) →
+    IsAmong after p ↔ (IsAmong v.tables p ⊎ (IsAmong needed p × (is_spine v.levels p ≡ false)))
+gains_on v w after more p tables levels h =
+    subst (λ (l : ℕ). IsAmong after p ↔ (IsAmong v.tables p ⊎ (IsAmong more p × (is_spine l p ≡ false)))) levels
+    (subst (λ (ps : List Position). IsAmong after p ↔ (IsAmong ps p ⊎ (IsAmong more p × (is_spine w.levels p ≡ false)))) tables h)
+
 -- Lists.
 
 -- the place of a member

@@ -23,6 +23,7 @@ use Rattle.pt_map.proofs.PiecesAdded.{piece_at}
 use Rattle.pt_map.proofs.PathTables.{positions}
 use Rattle.pt_map.proofs.BlockWords.{number_at, number_low, stands_here, table_at, word_ends, word_first, words_are}
 use Rattle.pt_tile.specs.Extents.{IsOneBlock, tiles}
+use Rattle.pt_tile.specs.Counting.{at_level}
 
 -- the positions of a path that aren't of the spine
 pub among_off : (levels : ℕ) (path : List Node) (p : Position) → IsAmong (off_spine levels path) p ↔ (IsAmong (positions path) p × (is_spine levels p ≡ false))
