@@ -68,6 +68,11 @@ shown_left f xs ys p h = list_any-append (λ x. shows f x p) xs ys ∙ or_left (
 pub shown_right : (f : Layout) (xs ys : List Absence) (p : Position) → IsTrue (is_shown f ys p) → IsTrue (is_shown f (xs ++ ys) p)
 shown_right f xs ys p h = list_any-append (λ x. shows f x p) xs ys ∙ or_right (is_shown f xs p) (is_shown f ys p) h
 
+-- an own table is one of a view of the same tables and levels
+pub own_on : (v w : View) → w.tables ≡ v.tables → w.levels ≡ v.levels → (p : Position) → IsOwnTable w p → IsOwnTable v p
+own_on v w tables levels p (inl there) = inl (subst (λ (ts : List Position). IsAmong ts p) tables there)
+own_on v w tables levels p (inr spine) = inr (subst (λ (l : ℕ). IsTrue (is_spine l p)) levels spine)
+
 -- Two counts, one after the other.
 module _ {f : Layout} {tells alone alone' : Type 0} (still : alone → alone') {u v w : View} {first second : List Position} (all : List Position) {cap m n : ℕ} (x : ByLoads tells u v) (y : ByLoads tells v w) (a : Counted f tells alone u v first cap m) (b : Counted f tells alone' v w second cap n) (apart : (p : Position) → IsAmong a.absent p → IsAmong b.absent p → ⊥) (parts : (p : Position) → IsAmong all p ↔ (IsAmong first p ⊎ IsAmong second p)) where
   pub counted_on : (c : Counted f tells alone u w all cap (min cap (m + n))) × ((p : Position) → IsAmong c.absent p → IsAmong a.absent p ⊎ IsAmong b.absent p)
@@ -97,7 +102,7 @@ module _ {f : Layout} {tells alone alone' : Type 0} (still : alone → alone') {
       ];
       all = λ lone less p h. elim ((parts p).0 h) [
         | inl i ↦ ⊎_elim (λ q. inl (among_left p a.absent b.absent q)) (λ k. inr k) (a.all lone (omega arith) p i)
-        | inr j ↦ ⊎_elim (λ q. inl (among_right p a.absent b.absent q)) (λ t. inr (own_back p t)) (b.all (still lone) (omega arith) p j)
+        | inr j ↦ ⊎_elim (λ q. inl (among_right p a.absent b.absent q)) (λ t. inr (own_on u v x.book.tables x.range.levels p t)) (b.all (still lone) (omega arith) p j)
       ];
       told = λ t. let i = a.told t in let j = b.told t in (
         i.0 ++ j.0,
@@ -107,10 +112,6 @@ module _ {f : Layout} {tells alone alone' : Type 0} (still : alone → alone') {
     },
     λ p h. among_append p a.absent b.absent h,
   )
-    where
-      own_back : (p : Position) → IsOwnTable v p → IsOwnTable u p
-      own_back p (inl there) = inl (subst (λ (ts : List Position). IsAmong ts p) x.book.tables there)
-      own_back p (inr spine) = inr (subst (λ (l : ℕ). IsTrue (is_spine l p)) x.range.levels spine)
 
 -- a multiple at or below a number is at or below the greatest one there
 pub floor_mono : (m n k : ℕ) → m ≤ n → m / 2 ^ k * 2 ^ k ≤ n / 2 ^ k * 2 ^ k

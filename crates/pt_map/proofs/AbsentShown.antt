@@ -13,11 +13,11 @@ use Rattle.pt_view.specs.declared.view.Absence.{Absence}
 use Rattle.pt_view.specs.declared.view.Absence.TheVariants.{Zero}
 use Rattle.pt_view.specs.declared.holder.Seen.{Seen}
 use Rattle.pt_view.specs.declared.holder.Seen.TheVariants.{Empty, Leaf, Entered}
-use Rattle.pt_model.specs.Sets.{IsAmong, SamePositions}
+use Rattle.pt_model.specs.Sets.{IsAmong}
 use Rattle.pt_view.specs.Calls.{IsVacant, Looked, Went, zero as looked_zero, leaf as looked_leaf, table as looked_table, entry_first, is_under, left}
 use Rattle.pt_view.specs.Loads.{ByLoads}
 use Rattle.pt_view.specs.Pieces.{entry_number}
-use Rattle.pt_view.proofs.Loads.{IsLoad, load_table, table_loads, table_owned, table_path}
+use Rattle.pt_view.proofs.Loads.{IsLoad, load_none, load_table, table_loads, table_owned, table_path}
 use Rattle.pt_view.proofs.Entries.{child_is, entry_first_is, at_entry}
 use Rattle.pt_model.proofs.Quotients.{entry_is_table}
 use Rattle.pt_tile.specs.declared.extent.Extent.{Extent}
@@ -26,30 +26,18 @@ use Rattle.pt_map.proofs.NeededTables.{LiesUnder, below_under, needs_over, needs
 use Rattle.pt_map.specs.Stands.{IsEntryExtent, IsExtentAt, IsOwnTable}
 use Rattle.pt_tile.specs.Extents.{tables_below, tables_of, tiles}
 use Rattle.pt_map.proofs.StandAfter.{at_inside, loads_keep}
-use Rattle.pt_map.proofs.AbsentCounted.{shown_right}
+use Rattle.pt_map.proofs.AbsentCounted.{own_on, shown_right}
 use Rattle.pt_map.specs.Answers.{unknown}
 
--- A load of an entry that was zero.
-record Shut (f : Layout) (tells : Type 0) (v : View) (p : Position) (number : ℕ) (w : View) : Type 0 where
-  path : w.path ≡ v.path
-  known : SamePositions v.known w.known
-  vacant : IsVacant f v p number
-  told : tells → (w.taken ≡ v.taken) × (w.absent ≡ v.absent ++ (if nat_lt 0 p.level then Zero (child_at f p number) ∷ [] else [])) × (w.stores ≡ v.stores)
+-- what is told of a load of an entry that was zero
+abbrev ZeroTold : Layout → View → Position → (number : ℕ) → View → Seen → Type 0
+ZeroTold f v p number w Empty = w.absent ≡ v.absent ++ (if nat_lt 0 p.level then Zero (child_at f p number) ∷ [] else [])
+ZeroTold f v p number w _ = Unit {0}
 
-abbrev WhereShut : Layout → (tells : Type 0) → View → Position → (number : ℕ) → View → Seen → Type 0
-WhereShut f tells v p number w Empty = Shut f tells v p number w
-WhereShut f tells v p number w (Leaf word) = Unit {0}
-WhereShut f tells v p number w Entered = Unit {0}
-
-where_shut : (f : Layout) (tells alone : Type 0) (v : View) (p : Position) (number : ℕ) (seen : Seen) (w : View) →
-    Looked f tells alone v p number seen w → WhereShut f tells v p number w seen
-where_shut f tells alone v p number _ _ (looked_zero w path known vacant told) = record { path = path; known = known; vacant = vacant; told = told }
-where_shut f tells alone v p number _ _ (looked_leaf w word piece path known told member here once is) = tt
-where_shut f tells alone v p number _ _ (looked_table w frame path known told high none owned) = tt
-
-shut : (f : Layout) (tells alone : Type 0) (v : View) (p : Position) (number : ℕ) (seen : Seen) (w : View) → seen ≡ Empty →
-    Looked f tells alone v p number seen w → Shut f tells v p number w
-shut f tells alone v p number seen w e l = subst (WhereShut f tells v p number w) e (where_shut f tells alone v p number seen w l)
+zero_told : (f : Layout) (tells alone : Type 0) (v : View) (p : Position) (number : ℕ) (seen : Seen) (w : View) → Looked f tells alone v p number seen w → tells → ZeroTold f v p number w seen
+zero_told f tells alone v p number _ _ (looked_zero w path known vacant told) t = (told t).1
+zero_told f tells alone v p number _ _ (looked_leaf w word piece path known told member here once is) t = tt
+zero_told f tells alone v p number _ _ (looked_table w frame path known told high none owned) t = tt
 
 module _ {f : Layout} (good : IsLayout f) {v : View} {x : Extent} {level : ℕ} (at : IsExtentAt f v x level) (entry : IsEntryExtent f x level) where
   abbrev place : Position
@@ -95,8 +83,9 @@ module _ {f : Layout} (good : IsLayout f) {v : View} {x : Extent} {level : ℕ} 
   module _ {tells alone : Type 0} {seen : Seen} {w : View} (load : IsLoad f tells alone v x.first level seen w) where
     -- The entry was zero.
     module _ (empty : seen ≡ Empty) where
-      was_shut : Shut f tells v place here w
-      was_shut = shut f tells alone v place here seen w empty ((subst (λ (k : ℕ). Went f tells alone k v seen w) load.is load.went).looked place (at_entry load.over))
+      was_told : tells → w.absent ≡ v.absent ++ (if nat_lt 0 level then Zero (child_at f place here) ∷ [] else [])
+      was_told t = subst (ZeroTold f v place here w) empty
+          (zero_told f tells alone v place here seen w ((subst (λ (k : ℕ). Went f tells alone k v seen w) load.is load.went).looked place (at_entry load.over)) t)
 
       -- no position under it is one of the spine, which is known below the level
       off_below : (p : Position) → LiesUnder f level x.first p → is_spine v.levels p ≡ false
@@ -105,13 +94,13 @@ module _ {f : Layout} (good : IsLayout f) {v : View} {x : Extent} {level : ℕ} 
           let high = leb-true (v.levels - 1) p.level parts.0 in
           let is : spine_position p.level ≡ p = same_position (spine_position p.level) p refl (sym (eqb-true p.base 0 parts.1)) in
           let known : IsAmong v.known p = subst (IsAmong v.known) is (at.spine p.level high l.low) in
-          false≢true (sym (was_shut.vacant.none_known p known) ∙ under_entry_is p l))
+          false≢true (sym ((load_none load empty).vacant.none_known p known) ∙ under_entry_is p l))
 
       -- all that the extent needs below the level is absent
       pub shut_counted : (cap count : ℕ) → count ≡ min cap (length (tables_below f x level)) →
           Counted f tells alone v w (tables_below f x level) cap count
       shut_counted cap count is =
-          let s = was_shut in
+          let s = load_none load empty in
           record {
             absent = tables_below f x level;
             count_is = is;
@@ -126,7 +115,7 @@ module _ {f : Layout} (good : IsLayout f) {v : View} {x : Extent} {level : ℕ} 
             all = λ a few p h. inl h;
             told = λ t. (
               Zero (child_at f place here) ∷ [],
-              (s.told t).1 ∙ ap (λ (b : Bool). v.absent ++ (if b then Zero (child_at f place here) ∷ [] else [])) (lt-ltb 0 level level_high),
+              was_told t ∙ ap (λ (b : Bool). v.absent ++ (if b then Zero (child_at f place here) ∷ [] else [])) (lt-ltb 0 level level_high),
               λ p h. let l = lies p h in
                   let base = child_pages in let end = child_ends in let from = l.from in let to = l.to in
                   or_left (shows f (Zero (child_at f place here)) p) _ (and_from (nat_le (child_at f place here).base p.base) _ (le-leb _ _ (omega arith)) (le-leb _ _ (omega arith))),
@@ -181,7 +170,7 @@ module _ {f : Layout} (good : IsLayout f) {v : View} {x : Extent} {level : ℕ} 
                 | inr high ↦ inr (subst (λ (ps : List Position). IsAmong ps p) (sym known_is) (deeper.known p (known_more p (inl (is_child p h (λ low. omega arith))))))
               ];
               all = λ a few p h. elim (cases_lt p.level (level - 1)) [
-                | inl low ↦ ⊎_elim (λ b. inl b) (λ t. inr (own_back p t)) (c.all (still a) few p (below_less p h low))
+                | inl low ↦ ⊎_elim (λ b. inl b) (λ t. inr (own_on v w load.went.book.tables load.went.range.levels p t)) (c.all (still a) few p (below_less p h low))
                 | inr high ↦
                     let child : p ≡ position_over f x.first (level - 1) = is_child p h (λ low. omega arith) in
                     inr (subst (IsOwnTable v) (sym child) (table_owned load entered a))
@@ -193,10 +182,6 @@ module _ {f : Layout} (good : IsLayout f) {v : View} {x : Extent} {level : ℕ} 
               );
             }
           where
-            own_back : (p : Position) → IsOwnTable w p → IsOwnTable v p
-            own_back p (inl there) = inl (subst (λ (ts : List Position). IsAmong ts p) load.went.book.tables there)
-            own_back p (inr spine) = inr (subst (λ (l : ℕ). IsTrue (is_spine l p)) load.went.range.levels spine)
-
             below_less : (p : Position) → IsAmong (tables_below f x level) p → p.level < level - 1 → IsAmong (tables_below f x (level - 1)) p
             below_less p h low =
                 let among = among_filtered (λ q. nat_lt q.level level) (tables_of f x) p h in

@@ -12,7 +12,8 @@ use Rattle.pt_view.proofs.Entries.{entry_first_is}
 use Rattle.pt_view.specs.Calls.{entry_first, pieces_at}
 use Rattle.pt_model.proofs.Quotients.{quotient, size_split, whole}
 use Rattle.pt_model.proofs.Positions.{same_position}
-use Rattle.pt_map.proofs.PiecesAdded.{piece_at, stands_at, stands_not}
+use Rattle.pt_view.proofs.Members.{piece_at}
+use Rattle.pt_map.proofs.PiecesAdded.{stands_at, stands_not}
 
 module _ {f : Layout} (good : IsLayout f) (b : Block) (legal : IsLegalBlock f b) (level : ℕ) (here : level_of_size f b.log2 ≡ level) where
   abbrev pub bits : ℕ

@@ -1,4 +1,5 @@
 -- The pieces of blocks put among the pieces of a book are those of the blocks put among its blocks.
+use Rattle.pt_view.proofs.Members.{all_pieces_append, piece_at}
 use Rattle.std.proofs.Common.{◌≡◌, ℕ, zero, suc, ◌+◌, ◌-◌, ◌*◌, ◌^◌, ◌<◌, ◌≤◌, ◌⊎◌, List, [], ◌∷◌, ◌++◌, Bool, true, false, inl, inr, refl, ap, sym, subst, ◌∙◌, arith, append_assoc}
 use Rattle.std.specs.Prelude.{map, filter, not, nat_lt, nat_le, AllPairs, length, slice_index_or}
 use Rattle.std.specs.List.{range_with_len}
@@ -84,9 +85,6 @@ puts_between f lo hi (z ∷ zs) xs ys before after rising under =
 
 -- The pieces of a block, and those of a tiling.
 
-abbrev piece_at : Block → ℕ → Piece
-piece_at b part = record { block = b; part = part }
-
 abbrev some_pieces : Block → (low n : ℕ) → List Piece
 some_pieces b low n = map (piece_at b) (range_with_len low n)
 
@@ -125,11 +123,6 @@ module _ {f : Layout} (good : IsLayout f) (b : Block) where
       let e : ℕ = pages_of_entry f (level_of_size f b.log2) in
       let same : (0 + n) * e ≡ n * e = omega arith in
       run_under f b (words_of f b) 0 m (omega (arith, block_pages, same))
-
--- the pieces of blocks one after the other
-pub all_append : (f : Layout) (cs bs : List Block) → all_pieces f (cs ++ bs) ≡ all_pieces f cs ++ all_pieces f bs
-all_append f [] bs = refl
-all_append f (c ∷ cs) bs = ap (λ (xs : List Piece). pieces_of f c ++ xs) (all_append f cs bs) ∙ sym (append_assoc (pieces_of f c) (all_pieces f cs) (all_pieces f bs))
 
 tiles_rise : (f : Layout) → IsLayout f → (prot : Prot) (s out left : ℕ) (bs : List Block) → IsTiling f prot s out left bs → Rising f s (all_pieces f bs)
 tiles_rise f good prot s out left [] t = tt
@@ -228,7 +221,7 @@ module _ {f : Layout} (good : IsLayout f) where
         ∙ ap (λ (cs : List Block). new ++ (b ∷ cs)) (adds_none bs) in
         puts_between f s (s + left) (all_pieces f new) before (all_pieces f (b ∷ bs)) up
         (pieces_from (s + left) (b ∷ bs) (later, order.1)) (tiles_rise f good prot s out left new t) (tiles_under f good prot s out left new t)
-        ∙ ap (λ (xs : List Piece). before ++ xs) (sym (all_append f new (b ∷ bs)))
+        ∙ ap (λ (xs : List Piece). before ++ xs) (sym (all_pieces_append f new (b ∷ bs)))
         ∙ ap (λ (cs : List Block). before ++ all_pieces f cs) (sym blocks)
   ]
 

@@ -1,4 +1,5 @@
 -- The turns in which an extent is filled: one part of it after the other, each a run of blocks or under one entry.
+use Rattle.pt_map.proofs.AbsentCounted.{run_none}
 use Rattle.std.proofs.Common.{◌≡◌, ℕ, ◌+◌, ◌-◌, ◌*◌, ◌%◌, ◌^◌, ◌<◌, ◌≤◌, List, [], ◌∷◌, ◌++◌, inl, inr, refl, ap, sym, ◌∙◌, subst, arith, append_assoc}
 use Rattle.std.proofs.lemmas.List.{append-nil}
 use Rattle.std.proofs.lemmas.Nat.{le-div}
@@ -16,12 +17,11 @@ use Rattle.pt_tile.specs.Runs.{run_blocks}
 use Rattle.pt_tile.proofs.FirstParts.{first_split, first_to}
 use Rattle.pt_tile.proofs.Levels.{size_low}
 use Rattle.pt_tile.proofs.RunTilings.{run_shifted, run_tiles}
-use Rattle.pt_tile.proofs.UnderEntries.{split_tiles}
 use Rattle.pt_view.specs.declared.view.View.{View}
 use Rattle.pt_view.specs.Calls.{left}
 use Rattle.pt_map.specs.Filled.{Filled, Fills, HasRoom, IsDeeper, MayFill, MayStore, MayStoreRun, Spends, SpendsOn, StoresRun, next_table}
 use Rattle.pt_map.specs.Stands.{IsEntryExtent}
-use Rattle.pt_map.proofs.RunEntries.{all_leaves, none_lower}
+use Rattle.pt_map.proofs.RunEntries.{all_leaves}
 use Rattle.pt_map.proofs.FilledParts.{below_has, below_inside, below_rest, filled_left, filled_none, filled_on, has_below, knows_left, may_first, may_rest, needs_parts, room_into}
 use Rattle.pt_map.proofs.NeededTables.{needs_append}
 use Rattle.pt_map.proofs.FramesSpent.{room_on, room_part, spends_none, spends_on}
@@ -136,9 +136,8 @@ module _ {f : Layout} (good : IsLayout f) {v : View} {x : Extent} {level : ℕ} 
 
     -- it needs no table below the level
     pub none_below : (p : Position) → IsAmong (tables_below f (up_to x to) level) p → ⊥
-    none_below p h =
-        let r = has_below f level (up_to x to) p h in
-        none_lower good may_run p (subst (λ (n : ℕ). IsAmong (tables_of f (up_to x n)) p) to_is r.0) r.1
+    none_below p h = run_none good may.stands.at.extent level (omega arith) count is p
+        (subst (λ (n : ℕ). IsAmong (tables_below f (up_to x n) level) p) (to_shifted ∙ run_shifted good may.stands.at.extent is k e) h)
 
     pub fills_run : {tells : Type 0} {w : View} → StoresRun f tells v w count (block k x) → Fills f tells v w (up_to x to) level
     fills_run {tells = tells} {w = w} stored = record {
@@ -150,12 +149,6 @@ module _ {f : Layout} (good : IsLayout f) {v : View} {x : Extent} {level : ℕ} 
 
 -- What lies under the entry over its first page.
 module _ {f : Layout} (good : IsLayout f) {v : View} {x : Extent} {level : ℕ} (may : MayFill f v x level) (low : first_size f x < f.index * level) (inner : Extent) (is : inner ≡ under_entry f level x) where
-  pub lies_first : IsFirstTo f level x inner.end
-  lies_first = inr (low, ap (λ (y : Extent). y.end) is)
-
-  pub entry_inner : IsEntryExtent f inner level
-  entry_inner = subst (λ (y : Extent). IsEntryExtent f y level) (sym is) (record { one = omega arith; lower = (split_tiles good may.store.stands.at.extent level low).1 })
-
   pub may_fill_inner : MayFill f v inner level
   may_fill_inner =
       let end : IsFirstTo f level x (under_entry f level x).end = inr (low, refl) in

@@ -2,7 +2,7 @@
 use Rattle.std.proofs.Common.{◌≡◌, ℕ, zero, suc, ◌+◌, ◌-◌, ◌*◌, ◌/◌, ◌<◌, ◌≤◌, List, [], ◌∷◌, ◌++◌, length, true, false, inl, inr, refl, ap, sym, ◌∙◌, subst, arith, append_assoc, length-append}
 use Rattle.std.specs.Prelude.{◌⊎◌, ◌↔◌, map, nat_lt}
 use Rattle.std.specs.List.{range_with_len}
-use Rattle.std.proofs.lemmas.Bool.{cases_Bool, cases_eq, lt-ltb, ltb-true}
+use Rattle.std.proofs.lemmas.Bool.{cases_Bool, cases_eq, false≢true, lt-ltb, ltb-true}
 use Rattle.std.proofs.lemmas.List.{append-nil, map-append}
 use Rattle.std.proofs.Math.Nat.{div-mul-le_self}
 use Rattle.pt_model.specs.declared.position.Position.{Position}
@@ -22,13 +22,13 @@ use Rattle.pt_view.specs.Pieces.{IsOneOf, add_pieces, all_pieces, pieces_of, wor
 use Rattle.pt_view.proofs.Stays.{range_on}
 use Rattle.pt_view.proofs.Loads.{absences_on, absences_here}
 use Rattle.pt_view.proofs.Paths.{front_snoc}
-use Rattle.pt_view.proofs.Members.{all_pieces_append}
+use Rattle.pt_view.proofs.Members.{all_pieces_append, in_block, one_of_either}
 use Rattle.pt_view.specs.Calls.{left, pieces_at, with_table, all_but_last}
 use Rattle.pt_tile.specs.declared.extent.Extent.{Extent}
 use Rattle.pt_map.specs.Filled.{Filled, HasNoPiece, HasRoom, IsDeeper, IsTableIn, MayStore, MayGoInto, next_table}
 use Rattle.pt_tile.proofs.FirstParts.{block_left, block_right, cut_part, cut_step, first_block, first_from, first_level, first_split, first_to, low_after, rest_part, tile_of}
 use Rattle.pt_map.proofs.NeededTables.{needs_append, needs_over, needs_page, over_needed}
-use Rattle.pt_map.proofs.PiecesAdded.{add_append, at_adds, piece_at}
+use Rattle.pt_map.proofs.PiecesAdded.{add_append, at_adds}
 use Rattle.pt_map.proofs.FramesSpent.{room_part}
 use Rattle.pt_map.proofs.BlockWords.{past_elsewhere, more}
 use Rattle.pt_map.specs.Stands.{IsEntryExtent}
@@ -111,21 +111,9 @@ filled_on f tells u v w xs ys ps qs all join a b = record {
 in_pieces : (f : Layout) (bs : List Block) (x : Piece) → IsOneOf (all_pieces f bs) x → IsOneBlock bs x.block × (x.part < words_of f x.block)
 in_pieces f [] x h = absurd h
 in_pieces f (b ∷ bs) x h = elim (one_of_either (pieces_of f b) (all_pieces f bs) x h) [
-  | inl here ↦
-      let r : (k : ℕ) × (k < 0 + words_of f b) × (piece_at b k ≡ x) = part_of_run b (words_of f b) 0 x here in
-      (inl (ap (λ (y : Piece). y.block) r.2), subst (λ (y : Piece). y.part < words_of f y.block) r.2 (let s = r.1 in omega arith))
+  | inl here ↦ (let r = in_block f b x here in (inl r.0, r.1))
   | inr later ↦ (let r = in_pieces f bs x later in (inr r.0, r.1))
 ]
-  where
-    one_of_either : (xs ys : List Piece) (x : Piece) → IsOneOf (xs ++ ys) x → IsOneOf xs x ⊎ IsOneOf ys x
-    one_of_either [] ys x h = inr h
-    one_of_either (y ∷ xs) ys x (inl e) = inl (inl e)
-    one_of_either (y ∷ xs) ys x (inr h) = elim (one_of_either xs ys x h) [ inl a ↦ inl (inr a) | inr b ↦ inr b ]
-
-    part_of_run : (b : Block) (n low : ℕ) (x : Piece) → IsOneOf (map (piece_at b) (range_with_len low n)) x → (k : ℕ) × (k < low + n) × (piece_at b k ≡ x)
-    part_of_run b zero low x h = absurd h
-    part_of_run b (suc n) low x (inl e) = (low, omega arith, e)
-    part_of_run b (suc n) low x (inr h) = let r : (k : ℕ) × (k < low + 1 + n) × (piece_at b k ≡ x) = part_of_run b n (low + 1) x h in (r.0, (let s = r.1 in omega arith), r.2)
 
 -- a page is not below the first page of the table over it
 base_low : (f : Layout) (page level : ℕ) → (position_over f page level).base ≤ page
@@ -197,25 +185,13 @@ module _ {f : Layout} (good : IsLayout f) {v : View} {x : Extent} {level : ℕ} 
         }
 
 -- a table that was linked is one of the tables, unless it is of the spine
-with_cases : (levels : ℕ) (tables : List Position) (q p : Position) → IsAmong (with_table levels tables q) p → IsAmong tables p ⊎ ((p ≡ q) × (is_spine levels p ≡ false))
-with_cases levels tables q p h = elim (cases_Bool (is_spine levels q)) [
-  | inl spine ↦ inl (subst (λ (ps : List Position). IsAmong ps p) (with_spine levels tables q spine) h)
-  | inr off ↦ elim ((added_are tables q p).0 ((subst (λ (ps : List Position). IsAmong ps p) (with_other levels tables q off) h))) [
-    | inl old ↦ inl (old)
-    | inr same ↦ inr (same, ap (is_spine levels) same ∙ off)
-  ]
-]
-  where
-    with_spine : (levels : ℕ) (tables : List Position) (q : Position) → is_spine levels q ≡ true → with_table levels tables q ≡ tables
-    with_spine levels tables q e = rw e refl
-
-    with_other : (levels : ℕ) (tables : List Position) (q : Position) → is_spine levels q ≡ false → with_table levels tables q ≡ add_position tables q
-    with_other levels tables q e = rw e refl
-
-with_old : (levels : ℕ) (tables : List Position) (q p : Position) → IsAmong tables p → IsAmong (with_table levels tables q) p
-with_old levels tables q p h = elim (cases_Bool (is_spine levels q)) [
-  | inl spine ↦ rw spine h
-  | inr off ↦ rw off (((added_are tables q p).1 (inl (h))))
+with_are : (levels : ℕ) (tables : List Position) (q p : Position) → IsAmong (with_table levels tables q) p ↔ (IsAmong tables p ⊎ ((p ≡ q) × (is_spine levels p ≡ false)))
+with_are levels tables q p = elim (cases_Bool (is_spine levels q)) [
+  | inl spine ↦ rw spine ((λ h. inl h), (λ h. elim h [ inl old ↦ old | inr new ↦ absurd (false≢true (sym new.1 ∙ ap (is_spine levels) new.0 ∙ spine)) ]))
+  | inr off ↦ rw off (let a = added_are tables q p in (
+    (λ h. elim (a.0 h) [ inl old ↦ inl old | inr same ↦ inr (same, ap (is_spine levels) same ∙ off) ]),
+    (λ h. a.1 (elim h [ inl old ↦ inl old | inr new ↦ inr new.0 ])),
+  ))
 ]
 
 with_sorted : (levels : ℕ) (tables : List Position) (q : Position) → IsSorted tables → IsSorted (with_table levels tables q)
@@ -284,13 +260,13 @@ module _ {f : Layout} (good : IsLayout f) {v : View} {x : Extent} {level : ℕ} 
     tables_deeper : (p : Position) → IsAmong w.tables p → IsAmong v.tables p ⊎ ((p ≡ next) × (is_spine v.levels p ≡ false))
     tables_deeper p h = elim deeper.tables [
       | inl same ↦ inl (subst (λ (ps : List Position). IsAmong ps p) same h)
-      | inr more ↦ with_cases v.levels v.tables next p (subst (λ (ps : List Position). IsAmong ps p) more h)
+      | inr more ↦ (with_are v.levels v.tables next p).0 (subst (λ (ps : List Position). IsAmong ps p) more h)
     ]
 
     pub tables_old : (p : Position) → IsAmong v.tables p → IsAmong w.tables p
     tables_old p h = elim deeper.tables [
       | inl same ↦ subst (λ (ps : List Position). IsAmong ps p) (sym same) h
-      | inr more ↦ subst (λ (ps : List Position). IsAmong ps p) (sym more) (with_old v.levels v.tables next p h)
+      | inr more ↦ subst (λ (ps : List Position). IsAmong ps p) (sym more) ((with_are v.levels v.tables next p).1 (inl h))
     ]
 
     pub tables_sorted : IsSorted v.tables → IsSorted w.tables

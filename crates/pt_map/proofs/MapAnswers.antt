@@ -19,7 +19,8 @@ use Rattle.pt_map.specs.Answers.{Accounts, Answers, HasNoEmptyTable, IsMapped, I
 use Rattle.pt_map.specs.Requests.{EndsBelow, IsOfNumbers, MappedBelow, IsRefusedByNumbers, IsRequested, occupied}
 use Rattle.pt_map.proofs.MapFromRoot.{Reached, owns_table, path_long, standing}
 use Rattle.pt_map.proofs.MapResults.{Standing, rested}
-use Rattle.pt_view.proofs.Loads.{absences_here}
+use Rattle.pt_view.proofs.Loads.{loads_here}
+use Rattle.pt_map.proofs.MapFromTable.{refused_walked}
 use Rattle.pt_map.specs.declared.refused.MapRefused.TheVariants as refused
 use Rattle.pt_map.proofs.MapResults as results
 
@@ -125,51 +126,23 @@ module _ (f : Layout) (tells : Type 0) (v w : View) (va pa len : ℕ) (prot : Pr
     wants = m.wants;
   })
 
--- a holder that stays as it is
-stays_as : (f : Layout) (tells : Type 0) (v : View) → IsRefused f tells v v
-stays_as f tells v = record {
-  range = record { frames = refl; levels = refl; first = refl; count = refl };
-  book = record { pieces = refl; tables = refl; top = refl };
-  path = refl;
-  prepared = refl;
-  end = refl;
-  purse = ([], refl);
-  known = λ p h. h;
-  busy = λ frame h. h;
-  grew = λ t. (absences_here refl, [], sym (append-nil v.taken));
-  stores = λ t. refl;
-}
+-- what holds of each refusal by numbers
+by_numbers : (P : MapRefused → Type 0) → P refused.Misaligned → P refused.OutsideLease → P refused.OutputRange → (e : MapRefused) → IsOfNumbers e → P e
+by_numbers P a b c refused.Misaligned n = a
+by_numbers P a b c refused.OutsideLease n = b
+by_numbers P a b c refused.OutputRange n = c
+by_numbers P a b c (refused.Occupied address) n = absurd n
+by_numbers P a b c (refused.NoFrames absent held) n = absurd n
 
 -- A request that is refused by its numbers leaves all as it was.
 module _ (f : Layout) (tells : Type 0) (v : View) (va pa len : ℕ) (x : Extent) where
   pub answers_numbers : (e : MapRefused) → IsRefusedByNumbers f v.first v.count va pa len e → Answers f tells v v (λ book. map_refusal f book va pa len) x (Err e)
   answers_numbers e h = record {
-    stays = stays_as f tells v;
-    purse = keeps e;
+    stays = refused_walked f tells v v loads_here refl;
+    purse = by_numbers (λ r. KeepsPurse v v r) refl refl refl e h.of_numbers;
     refused = λ blocks rest. h.refusal (book_of v blocks) (refl, refl);
-    wants = λ blocks rest. no_want blocks e h.of_numbers;
+    wants = λ blocks rest. by_numbers (λ r. IsWanting f tells v v blocks x r) tt tt tt e h.of_numbers;
   }
-    where
-      keeps : (e : MapRefused) → KeepsPurse v v e
-      keeps (refused.NoFrames absent held) = tt
-      keeps refused.Misaligned = refl
-      keeps refused.OutsideLease = refl
-      keeps refused.OutputRange = refl
-      keeps (refused.Occupied address) = refl
-
-      no_want : (blocks : List Block) (e : MapRefused) → IsOfNumbers e → IsWanting f tells v v blocks x e
-      no_want blocks (refused.NoFrames absent held) none = absurd none
-      no_want blocks refused.Misaligned none = tt
-      no_want blocks refused.OutsideLease none = tt
-      no_want blocks refused.OutputRange none = tt
-      no_want blocks (refused.Occupied address) none = tt
 
   pub accounts_numbers : (aside : Aside) (e : MapRefused) → IsRefusedByNumbers f v.first v.count va pa len e → Accounts f v v aside x (Err e)
-  accounts_numbers aside e h = (refl, λ blocks rest. no_short blocks e h.of_numbers)
-    where
-      no_short : (blocks : List Block) (e : MapRefused) → IsOfNumbers e → IsShortOf f v (linked_count v aside) blocks x e
-      no_short blocks (refused.NoFrames absent held) none = absurd none
-      no_short blocks refused.Misaligned none = tt
-      no_short blocks refused.OutsideLease none = tt
-      no_short blocks refused.OutputRange none = tt
-      no_short blocks (refused.Occupied address) none = tt
+  accounts_numbers aside e h = (refl, λ blocks rest. by_numbers (λ r. IsShortOf f v (linked_count v aside) blocks x r) tt tt tt e h.of_numbers)

@@ -28,23 +28,16 @@ use Rattle.pt_walk.proofs.Books.{owns_all}
 use Rattle.pt_walk.proofs.Descent.{owns_on}
 use Rattle.pt_model.proofs.Quotients.{root_over}
 use Rattle.pt_walk.proofs.Ranges.{clear_root}
-use Rattle.pt_map.specs.Answers.{HasNoEmptyTable}
 use Rattle.pt_map.specs.Requests.{MayMap, MayMapBelow}
 use Rattle.pt_map.specs.Stands.{StandsAt}
 use Rattle.pt_map.proofs.NeededTables.{space_in_table, top_is}
 use Rattle.pt_map.proofs.MapResults.{Standing}
-use Rattle.pt_map.proofs.TablesAfter.{member_at, sorted_tables}
+use Rattle.pt_map.proofs.TablesAfter.{full_on, member_at, sorted_tables}
 
 -- a way down, and a further one from its end
 way_on : (f : Layout) (page level : ℕ) (xs ys : List Node) → IsWayDown f page level xs → IsWayDown f page (level - length xs) ys → IsWayDown f page level (xs ++ ys)
 way_on f page level [] ys a b = subst (λ (n : ℕ). IsWayDown f page n ys) (let e : level - 0 ≡ level = omega arith in e) b
 way_on f page level (x ∷ xs) ys a b = (a.0, way_on f page (level - 1) xs ys a.1 (subst (λ (n : ℕ). IsWayDown f page n ys) (let e : level - length (x ∷ xs) ≡ level - 1 - length xs = omega arith in e) b))
-
--- a book without an empty table has none after a walk
-full_kept : (f : Layout) (v w : View) → ByLoads ⊥ v w → HasNoEmptyTable f v → HasNoEmptyTable f w
-full_kept f v w walked full = λ p m.
-    let y = full p (subst (λ (ps : List Position). IsAmong ps p) walked.book.tables m) in
-    (y.0, subst (λ ps. IsOneOf ps y.0) (sym walked.book.pieces) y.1, y.2, y.3)
 
 -- the first block stands in a table of a level, if it is so high
 low_at : (index k level : ℕ) → 0 < index → k / index ≤ level → k < index * (level + 1)
@@ -182,7 +175,7 @@ module _ {f : Layout} (good : IsLayout f) {tells alone : Type 0} {v u d : View} 
         positions = λ p m.
             let there : IsAmong v.tables p = subst (λ (ps : List Position). IsAmong ps p) w.book.tables m in
             All-contains (IsPosition f) v.tables p lawful.positions (member_at v.tables p there);
-        full = full_kept f v d (record { range = w.range; book = w.book; purse = w.purse; prepared = w.prepared; busy = w.busy; known = w.known; taken = λ t. absurd t; stores = λ t. absurd t; absent = λ t. absurd t }) b.may.full;
+        full = full_on f v d w.book b.may.full;
       }
 
   pub standing : (blocks : List Block) → IsAtRest f v blocks → Standing f tells v d blocks x level

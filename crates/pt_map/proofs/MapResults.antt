@@ -28,11 +28,11 @@ use Rattle.pt_map.specs.declared.refused.MapRefused.{MapRefused}
 use Rattle.pt_map.specs.Absent.{Counted, IsMissing, is_shown}
 use Rattle.pt_map.specs.Answers.{AddsToHistory, FindsAbsent, FindsEach, HasNoEmptyTable, IsMapped, IsRefused, IsShortOf, IsWanting, KeepsPurse, WantsFrames, book_with, lacking, refusal_of, unknown, LinksAll}
 use Rattle.pt_map.specs.Requests.{LacksFrames, MappedBelow, HasCause, RefusedBelow, occupied}
-use Rattle.pt_map.proofs.AbsentCounted.{shown_right}
+use Rattle.pt_map.proofs.AbsentCounted.{own_on, shown_right}
 use Rattle.pt_map.proofs.BlocksAdded.{Apart, adds_pieces, in_order_from}
 use Rattle.pt_map.proofs.FirstMapped.{first_mapped, free_apart, none_mapped}
 use Rattle.pt_map.proofs.LackingTables.{absent_all, absent_few, absent_most, absent_shown, tables_more}
-use Rattle.pt_map.proofs.TablesAfter.{full_after, gains_on, tables_after}
+use Rattle.pt_map.proofs.TablesAfter.{full_after, full_on, gains_on, tables_after}
 use Rattle.pt_tile.specs.Extents.{IsExtent, tables_below, tables_of, tiles}
 use Rattle.pt_map.specs.Stands.{IsOwnTable}
 use Rattle.pt_tile.proofs.FirstSizes.{extent_tiling}
@@ -81,8 +81,7 @@ module _ {f : Layout} (good : IsLayout f) {tells : Type 0} {v d : View} {blocks 
   }
 
   own_here : (p : Position) → IsOwnTable d p → IsOwnTable v p
-  own_here p (inl there) = inl (subst (λ (ps : List Position). IsAmong ps p) stand.walked.book.tables there)
-  own_here p (inr spine) = inr (subst (λ (l : ℕ). IsTrue (is_spine l p)) stand.walked.range.levels spine)
+  own_here p = own_on v d stand.walked.book.tables stand.walked.range.levels p
 
   none_there : IsFree f d x.first x.end → lowest_mapped (book_of v blocks) x.first x.end ≡ None
   none_there free = none_mapped good stand.rest x.first x.end stand.extent.some (free_here free)
@@ -215,11 +214,7 @@ module _ {f : Layout} (good : IsLayout f) {tells : Type 0} {v d : View} {blocks 
         }
 
     pub full_refused : HasNoEmptyTable f w
-    full_refused =
-        let book = book_on stand.walked.book r.stays.book in
-        λ p m.
-        let y = stand.full p (subst (λ (ps : List Position). IsAmong ps p) book.tables m) in
-        (y.0, subst (λ ps. IsOneOf ps y.0) (sym book.pieces) y.1, y.2, y.3)
+    full_refused = full_on f v w (book_on stand.walked.book r.stays.book) stand.full
 
   pub keeps_purse : (w : View) (e : MapRefused) → KeepsPurse d w e → KeepsPurse v (rested w) e
   keeps_purse w (refused.NoFrames absent held) k = tt

@@ -22,7 +22,7 @@ use Rattle.pt_tile.proofs.Levels.{in_levels, levels_in, over_first, size_low}
 use Rattle.pt_tile.proofs.Needed.{all_from}
 use Rattle.pt_model.proofs.Quotients.{floor_le, multiple_under}
 use Rattle.pt_tile.specs.declared.extent.Extent.{Extent}
-use Rattle.pt_tile.proofs.FirstSizes.{size_greatest, extent_tiling}
+use Rattle.pt_tile.proofs.FirstSizes.{size_greatest}
 use Rattle.pt_tile.specs.Extents.{IsExtent, first_size, tables_below, tables_of, tiles, IsOneBlock}
 use Rattle.pt_tile.proofs.FirstParts.{IsTile, tile_of}
 use Rattle.pt_tile.specs.Runs.{run_blocks}
@@ -31,6 +31,14 @@ use Rattle.pt_tile.specs.Runs.{run_blocks}
 abbrev pub AnyNeeds : Layout → (levels : ℕ) → List Block → Position → Type 0
 AnyNeeds f levels [] p = ⊥
 AnyNeeds f levels (b ∷ bs) p = IsAmong (needed f levels b) p ⊎ AnyNeeds f levels bs p
+
+-- and this is one of it
+pub needing : (f : Layout) (l : ℕ) (bs : List Block) (p : Position) → AnyNeeds f l bs p → (b : Block) × IsOneBlock bs b × IsAmong (needed f l b) p
+needing f l [] p h = absurd h
+needing f l (b ∷ bs) p h = elim h [
+  | inl m ↦ (b, inl refl, m)
+  | inr more ↦ (let r : (c : Block) × IsOneBlock bs c × IsAmong (needed f l c) p = needing f l bs p more in (r.0, inr r.1, r.2))
+]
 
 -- the members of what all blocks need
 
@@ -75,26 +83,6 @@ sorted_from f l (b ∷ bs) ps s = sorted_from f l bs (add_positions ps (needed f
 
 pub needs_sorted : (f : Layout) (l : ℕ) (bs : List Block) → IsSorted (all_needed f l bs)
 needs_sorted f l bs = sorted_from f l bs [] tt
-
--- A block that needs a position, of the tiling of a run of pages.
-pub record IsNeeding (f : Layout) (l first end : ℕ) (p : Position) (b : Block) : Type 0 where
-  pub from : first ≤ b.first
-  pub to : end_of b ≤ end
-  pub a_size : IsTrue (is_size f b.log2)
-  pub needs : IsAmong (needed f l b) p
-
-pub block_needing : (f : Layout) (l : ℕ) (prot : Prot) (bs : List Block) (first out left end : ℕ) (p : Position) → first + left ≡ end → IsTiling f prot first out left bs →
-    AnyNeeds f l bs p → (b : Block) × IsNeeding f l first end p b
-block_needing f l prot [] first out left end p e t h = absurd h
-block_needing f l prot (b ∷ bs) first out left end p e t h =
-    let at : b.first ≡ first = ap (λ (c : Block). c.first) t.0 in
-    let fits : 2 ^ b.log2 ≤ left = t.1.fits in
-    elim h [
-      | inl m ↦ (b, record { from = omega arith; to = omega arith; a_size = t.1.legal.a_size; needs = m })
-      | inr more ↦
-          let r = block_needing f l prot bs (first + 2 ^ b.log2) (out + 2 ^ b.log2) (left - 2 ^ b.log2) end p (omega arith) t.2 more in
-          (r.0, record { from = (let low = r.1.from in omega arith); to = r.1.to; a_size = r.1.a_size; needs = r.1.needs })
-    ]
 
 -- Runs of 2 ^ j pages.
 
@@ -230,18 +218,13 @@ module _ {f : Layout} (good : IsLayout f) where
           )
 
     -- a needed position is over the first page of a block of the part
-    pub needs_block : (p : Position) → IsAmong (tables_of f x) p → (b : Block) × IsNeeding f f.levels x.first x.end p b
-    needs_block p h = let some = part.some in
-        block_needing f f.levels x.prot (tiles f x) x.first x.out (x.end - x.first) x.end p (omega arith) (extent_tiling good part) (needs_any f f.levels (tiles f x) p h)
-
     pub needs_page : (p : Position) → IsAmong (tables_of f x) p → (page : ℕ) × (x.first ≤ page) × (page < x.end) × (p.level < f.levels) × (position_over f page p.level ≡ p)
     needs_page p h =
-        let r = needs_block p h in
-        let input = part.in_input in
-        let from = r.1.from in
-        let to = r.1.to in
+        let r = needing f f.levels (tiles f x) p (needs_any f f.levels (tiles f x) p h) in
         let b : Block = r.0 in
-        let n = needs_of_block b r.1.a_size (omega arith) p r.1.needs in
+        let t = tile_of good part b r.1 in
+        let input = part.in_input in let from = t.from in let to = t.to in
+        let n = needs_of_block b t.legal.a_size (omega arith) p r.2 in
         (b.first, from, (let some = pow_pos b.log2 in omega arith), n.1, n.2)
 
     -- the tables over its first page are needed from the level of its first block on

@@ -13,16 +13,8 @@ use Rattle.pt_model.specs.Sets.{one_if}
 use Rattle.pt_view.specs.Pieces.{IsOneOf, add_piece, add_pieces, all_pieces, first_of, number_of, pieces_of, table_of}
 use Rattle.pt_view.specs.Calls.{pieces_at}
 
--- a piece of a block
-abbrev pub piece_at : Block → ℕ → Piece
-piece_at b part = record { block = b; part = part }
-
 pub add_append : (f : Layout) (old xs ys : List Piece) → add_pieces f old (xs ++ ys) ≡ add_pieces f (add_pieces f old xs) ys
 add_append f old xs ys = fold-append (add_piece f) old xs ys
-
-pub all_append : (f : Layout) (xs bs : List Block) → all_pieces f (xs ++ bs) ≡ all_pieces f xs ++ all_pieces f bs
-all_append f [] bs = refl
-all_append f (x ∷ xs) bs = ap (λ (ys : List Piece). pieces_of f x ++ ys) (all_append f xs bs) ∙ sym (append_assoc (pieces_of f x) (all_pieces f xs) (all_pieces f bs))
 
 module _ (f : Layout) (p : Position) (n : ℕ) where
   -- a piece stands at its own entry alone

@@ -34,7 +34,7 @@ use Rattle.pt_map.specs.Filled.{Filled, MayStore, MayStoreRun}
 use Rattle.pt_map.proofs.FilledParts.{may_part}
 use Rattle.pt_tile.proofs.FirstParts.{IsTile, tile_of}
 use Rattle.pt_map.proofs.NeededTables.{needs_any, needs_over, needs_page, over_needed, run_needs}
-use Rattle.pt_map.proofs.PiecesAdded.{piece_at}
+use Rattle.pt_view.proofs.Members.{piece_at}
 use Rattle.pt_tile.proofs.FirstSizes.{size_greatest}
 use Rattle.pt_map.proofs.PathTables.{positions, tables_way, way_tables}
 use Rattle.pt_map.proofs.BlockWords.{first_whole, more_low, number_at, size_is, word_is}
@@ -196,10 +196,6 @@ module _ {f : Layout} (good : IsLayout f) {v : View} {b : Block} {count level : 
                   false≢true (sym off ∙ subst (λ (q : Position). is_spine v.levels q ≡ true) is spine))
             ]),
       )
-
-  -- none of it is below the level
-  pub none_lower : (p : Position) → IsAmong (tables_of f (extent_of count b)) p → p.level < level → ⊥
-  none_lower p h low = let high = needs_high p h in omega arith
 
   -- An entry of it.
   module _ (e : ℕ) (less : e < count * 2 ^ bits) where

@@ -40,11 +40,6 @@ pub found_above : (f : Layout) (tells alone alone' : Type 0) (v w u z : View) (x
 found_above f tells alone alone' v w u z x level lower cap (Mapped page) book counted h = lowest_on book h
 found_above f tells alone alone' v w u z x level lower cap (Absent count) book counted h = (free_on f x.first x.end book h.0, counted count h.1)
 
--- a mapped page of what is left of a part, where no page before it is mapped
-pub found_later : (f : Layout) (v w : View) (x rest : Extent) (to page : ℕ) → SameBook v w → x.first ≤ rest.first → to ≤ x.end → IsFree f v x.first rest.first →
-    IsLowest f w rest.first to page → IsLowest f v x.first x.end page
-found_later f v w x rest to page book low high before h = lowest_more x.first x.end low high before (lowest_on book h)
-
 -- What is left of an extent may be looked through.
 module _ {f : Layout} (good : IsLayout f) {tells alone : Type 0} {v w : View} {x rest : Extent} {level cap count : ℕ} (may : MaySurvey f v x level cap) (gone : HasGone f tells alone v w x rest level cap count) where
   pub may_survey_rest : rest.first < rest.end → MaySurvey f w rest level cap
@@ -151,5 +146,5 @@ module _ {f : Layout} (good : IsLayout f) {tells alone alone' : Type 0} {v w z :
       record {
         walked = loads_on gone.walked s.walked;
         path = s.path ∙ gone.path;
-        finds = found_later f v w x rest to page gone.walked.book gone.first (omega arith) free lowest;
+        finds = lowest_more x.first x.end gone.first (omega arith) free (lowest_on gone.walked.book lowest);
       }

@@ -1,4 +1,5 @@
 -- The tables of a book after a map, and that each of them has a piece under it.
+use Rattle.pt_view.specs.Views.{SameBook}
 use Rattle.std.proofs.Common.{◌≡◌, ℕ, suc, ◌+◌, ◌-◌, ◌*◌, ◌/◌, ◌<◌, ◌≤◌, ◌⊎◌, ◌↔◌, List, [], ◌∷◌, Bool, true, false, inl, inr, refl, ap, sym, subst, ◌∙◌, arith}
 use Rattle.std.specs.Prelude.{IsTrue, nat_le, not, filter, length, slice_index_or, AllPairs}
 use Rattle.std.specs.List.{list_any}
@@ -19,7 +20,7 @@ use Rattle.pt_walk.specs.Walks.{IsFree}
 use Rattle.pt_view.proofs.Members.{mapped_one, piece_at}
 use Rattle.pt_tile.specs.declared.extent.Extent.{Extent}
 use Rattle.pt_map.specs.Answers.{HasNoEmptyTable, book_with}
-use Rattle.pt_map.proofs.NeededTables.{AnyNeeds, needs_any, needs_of_block, needed_same}
+use Rattle.pt_map.proofs.NeededTables.{needing, needs_any, needs_of_block, needed_same}
 use Rattle.pt_map.proofs.FirstMapped.{piece_of_block}
 use Rattle.pt_tile.specs.Extents.{IsExtent, IsOneBlock, tables_of, tiles}
 use Rattle.pt_tile.proofs.FirstParts.{tile_of}
@@ -30,6 +31,12 @@ pub gains_on : (v w : View) (after needed : List Position) (p : Position) → w.
 gains_on v w after more p tables levels h =
     subst (λ (l : ℕ). IsAmong after p ↔ (IsAmong v.tables p ⊎ (IsAmong more p × (is_spine l p ≡ false)))) levels
     (subst (λ (ps : List Position). IsAmong after p ↔ (IsAmong ps p ⊎ (IsAmong more p × (is_spine w.levels p ≡ false)))) tables h)
+
+-- a view of the same book has no empty table either
+pub full_on : (f : Layout) (v w : View) → SameBook v w → HasNoEmptyTable f v → HasNoEmptyTable f w
+full_on f v w book full = λ p m.
+    let y = full p (subst (λ (ps : List Position). IsAmong ps p) book.tables m) in
+    (y.0, subst (λ (ps : List Piece). IsOneOf ps y.0) (sym book.pieces) y.1, y.2, y.3)
 
 -- Lists.
 
@@ -59,14 +66,6 @@ none_lies f [] p fails = refl
 none_lies f (b ∷ bs) p fails =
     let here : table_lies_in f b.first (end_of b) p ≡ false = fails b (inl refl) in
     rw here (none_lies f bs p (λ c m. fails c (inr m)))
-
--- a block of a list needs a position
-pub needing : (f : Layout) (l : ℕ) (bs : List Block) (p : Position) → AnyNeeds f l bs p → (b : Block) × IsOneBlock bs b × IsAmong (needed f l b) p
-needing f l [] p h = absurd h
-needing f l (b ∷ bs) p h = elim h [
-  | inl m ↦ (b, inl refl, m)
-  | inr more ↦ (let r : (c : Block) × IsOneBlock bs c × IsAmong (needed f l c) p = needing f l bs p more in (r.0, inr r.1, r.2))
-]
 
 -- pieces put among others are there, and the others stay
 

@@ -19,7 +19,7 @@ use Rattle.pt_view.specs.Pieces.{entry_number}
 use Rattle.pt_view.specs.Calls.{MayPut, entry_end, entry_first, is_under, off_spine, pieces_at}
 use Rattle.pt_tile.specs.declared.extent.Extent.{Extent}
 use Rattle.pt_map.specs.Filled.{MayStore}
-use Rattle.pt_map.proofs.PiecesAdded.{piece_at}
+use Rattle.pt_view.proofs.Members.{piece_at}
 use Rattle.pt_map.proofs.PathTables.{positions}
 use Rattle.pt_map.proofs.BlockWords.{number_at, number_low, stands_here, table_at, word_ends, word_first, words_are}
 use Rattle.pt_tile.specs.Extents.{IsOneBlock, tiles}

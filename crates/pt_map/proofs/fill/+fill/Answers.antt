@@ -8,7 +8,8 @@ use Rattle.pt_tile.proofs.FirstSizes.{outputs_few, size_small}
 use Rattle.pt_tile.proofs.RunTilings.{run_fewer, run_fits}
 use Rattle.pt_map.specs.Filled.{MayFill, MayStoreRun, StoresRun}
 use Rattle.pt_map.proofs.FilledParts.{may_inside, may_into, may_leave, room_into, some_level}
-use Rattle.pt_map.proofs.FillTurns.{entry_inner, fills_entry, fills_inner, fills_run, filling_all, filling_next, filling_none, lacking_below, lies_first, may_fill_inner, may_fill_rest, may_run, run_leaves, to_run}
+use Rattle.pt_map.proofs.AbsentCounted.{inner_entry, inner_to}
+use Rattle.pt_map.proofs.FillTurns.{fills_entry, fills_inner, fills_run, filling_all, filling_next, filling_none, lacking_below, may_fill_inner, may_fill_rest, may_run, run_leaves, to_run}
 use Rattle.pt_map.proofs.fill.+fill.Goals as goal
 
 -- The loop over the parts of an extent.
@@ -145,13 +146,13 @@ fill_first-fill_entry-requires g t c κs within =
     let good = g.met.F.Format.lawful_layout in
     let low = low_by c.INDEX.result g.F.Format.layout.index c.args.level c.first_size-log2.result _ (c.INDEX.ensures ∙ sym g.met.F.Format.has_constants.index_is) c.first_size-log2.ensures c.if-log2-INDEX.false in
     let may = may_fill_inner good c.requires low c.under_entry-inner.result c.under_entry-inner.ensures in
-    let entry = entry_inner good c.requires low c.under_entry-inner.result c.under_entry-inner.ensures in
+    let entry = inner_entry good c.requires.store.stands.at low c.under_entry-inner.result c.under_entry-inner.ensures in
     search (rules, may, entry)
 
 pub fill_first-returns-else-log2-INDEX-clause-to : goal.fill_first-returns-else-log2-INDEX-clause-to
 fill_first-returns-else-log2-INDEX-clause-to g t c =
     let low = low_by c.INDEX.result g.F.Format.layout.index c.args.level c.first_size-log2.result _ (c.INDEX.ensures ∙ sym g.met.F.Format.has_constants.index_is) c.first_size-log2.ensures c.if-log2-INDEX.false in
-    lies_first g.met.F.Format.lawful_layout c.requires low c.under_entry-inner.result c.under_entry-inner.ensures
+    inner_to g.met.F.Format.lawful_layout c.requires.store.stands.at low c.under_entry-inner.result c.under_entry-inner.ensures
 
 pub fill_first-returns-else-log2-INDEX-clause-fills : goal.fill_first-returns-else-log2-INDEX-clause-fills
 fill_first-returns-else-log2-INDEX-clause-fills g t c =
