@@ -6,7 +6,7 @@ use Rattle.std.proofs.lemmas.Nat.{pow_pos}
 use Rattle.pt_model.specs.declared.position.Position.{Position}
 use Rattle.pt_model.specs.Layout.{Layout, pages_of_entry}
 use Rattle.pt_model.specs.Tables.{child_at, end_of_table, is_spine, position_over, spine_position}
-use Rattle.pt_model.proofs.Positions.{same_position, sorted_filter, among_filtered, among_passes, sorted_once}
+use Rattle.pt_model.proofs.Positions.{same_position, sorted_filter, sorted_once}
 use Rattle.pt_format.specs.Laws.{IsLayout}
 use Rattle.pt_view.specs.declared.view.View.{View}
 use Rattle.pt_view.specs.declared.view.Absence.{Absence}
@@ -22,7 +22,7 @@ use Rattle.pt_view.proofs.Entries.{child_is, entry_first_is, at_entry}
 use Rattle.pt_model.proofs.Quotients.{entry_is_table}
 use Rattle.pt_tile.specs.declared.extent.Extent.{Extent}
 use Rattle.pt_map.specs.Absent.{Counted, shows}
-use Rattle.pt_map.proofs.NeededTables.{LiesUnder, below_under, needs_over, needs_sorted}
+use Rattle.pt_map.proofs.NeededTables.{LiesUnder, below_has, below_under, has_below, needs_over, needs_sorted}
 use Rattle.pt_map.specs.Stands.{IsEntryExtent, IsExtentAt, IsOwnTable}
 use Rattle.pt_tile.specs.Extents.{tables_below, tables_of, tiles}
 use Rattle.pt_map.proofs.StandAfter.{at_inside, loads_keep}
@@ -132,8 +132,7 @@ module _ {f : Layout} (good : IsLayout f) {v : View} {x : Extent} {level : ℕ} 
         -- a needed position of the child's level is the child
         is_child : (p : Position) → IsAmong (tables_below f x level) p → ¬ (p.level < level - 1) → p ≡ position_over f x.first (level - 1)
         is_child p h high =
-            let among = among_filtered (λ q. nat_lt q.level level) (tables_of f x) p h in
-            let low : p.level < level = ltb-true p.level level among.1 in
+            let among = has_below f level x p h in let low = among.1 in
             let same : p.level ≡ level - 1 = omega arith in
             let some = level_high in
             let deep : x.end ≤ end_of_table f (position_over f x.first (level - 1)) = open_part.range.under in
@@ -156,11 +155,7 @@ module _ {f : Layout} (good : IsLayout f) {v : View} {x : Extent} {level : ℕ} 
               once = c.once;
               missing = λ p h. let m = c.missing p h in record {
                 off_spine = subst (λ (l : ℕ). is_spine l p ≡ false) range.levels m.off_spine;
-                is_needed = (
-                    let among = among_filtered (λ q. nat_lt q.level (level - 1)) (tables_of f x) p m.is_needed in
-                    let low = ltb-true p.level (level - 1) among.1 in
-                    among_passes (λ q. nat_lt q.level level) (tables_of f x) p among.0 (lt-ltb p.level level (omega arith))
-                    );
+                is_needed = (let among = has_below f (level - 1) x p m.is_needed in let low = among.1 in below_has f level x p among.0 (omega arith));
                 no_table = λ a. m.no_table (subst (λ (ts : List Position). IsAmong ts p) (sym book.tables) a);
                 unknown = λ a. m.unknown (known_more p (inr a));
               };
@@ -183,6 +178,4 @@ module _ {f : Layout} (good : IsLayout f) {v : View} {x : Extent} {level : ℕ} 
             }
           where
             below_less : (p : Position) → IsAmong (tables_below f x level) p → p.level < level - 1 → IsAmong (tables_below f x (level - 1)) p
-            below_less p h low =
-                let among = among_filtered (λ q. nat_lt q.level level) (tables_of f x) p h in
-                among_passes (λ q. nat_lt q.level (level - 1)) (tables_of f x) p among.0 (lt-ltb p.level (level - 1) low)
+            below_less p h low = below_has f (level - 1) x p (has_below f level x p h).0 low

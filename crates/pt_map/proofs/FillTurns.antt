@@ -22,8 +22,8 @@ use Rattle.pt_view.specs.Calls.{left}
 use Rattle.pt_map.specs.Filled.{Filled, Fills, HasRoom, IsDeeper, MayFill, MayStore, MayStoreRun, Spends, SpendsOn, StoresRun, next_table}
 use Rattle.pt_map.specs.Stands.{IsEntryExtent}
 use Rattle.pt_map.proofs.RunEntries.{all_leaves}
-use Rattle.pt_map.proofs.FilledParts.{below_has, below_inside, below_rest, filled_left, filled_none, filled_on, has_below, knows_left, may_first, may_rest, needs_parts, room_into}
-use Rattle.pt_map.proofs.NeededTables.{needs_append}
+use Rattle.pt_map.proofs.FilledParts.{below_inside, below_rest, filled_left, filled_none, filled_on, knows_left, may_first, may_rest, needs_parts, room_into}
+use Rattle.pt_map.proofs.NeededTables.{needs_append, below_has, has_below}
 use Rattle.pt_map.proofs.FramesSpent.{room_on, room_part, spends_none, spends_on}
 
 -- From view v to view w the blocks of an extent up to the first page of what is left of it were written.

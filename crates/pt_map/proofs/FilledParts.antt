@@ -9,8 +9,8 @@ use Rattle.pt_model.specs.declared.position.Position.{Position}
 use Rattle.pt_model.specs.declared.block.Block.{Block}
 use Rattle.pt_model.specs.Layout.{Layout, level_of_size, pages_of_table}
 use Rattle.pt_model.specs.Sets.{IsSorted, IsAmong}
-use Rattle.pt_model.specs.Tables.{add_position, all_needed, end_of_table, is_spine, position_over}
-use Rattle.pt_model.proofs.Positions.{sorted_add, among_filtered, among_passes, added_are, among_one}
+use Rattle.pt_model.specs.Tables.{all_needed, end_of_table, is_spine, position_over}
+use Rattle.pt_model.proofs.Positions.{sorted_add, added_are, among_one}
 use Rattle.pt_model.proofs.Quotients.{entry_is_table}
 use Rattle.pt_format.specs.Laws.{IsLayout}
 use Rattle.pt_view.specs.declared.view.View.{View}
@@ -27,21 +27,13 @@ use Rattle.pt_view.specs.Calls.{left, pieces_at, with_table, all_but_last}
 use Rattle.pt_tile.specs.declared.extent.Extent.{Extent}
 use Rattle.pt_map.specs.Filled.{Filled, HasNoPiece, HasRoom, IsDeeper, IsTableIn, MayStore, MayGoInto, next_table}
 use Rattle.pt_tile.proofs.FirstParts.{block_left, block_right, cut_part, cut_step, first_block, first_from, first_level, first_split, first_to, low_after, rest_part, tile_of}
-use Rattle.pt_map.proofs.NeededTables.{needs_append, needs_over, needs_page, over_needed}
+use Rattle.pt_map.proofs.NeededTables.{needs_append, needs_over, needs_page, over_needed, below_has, has_below}
 use Rattle.pt_map.proofs.PiecesAdded.{add_append, at_adds}
 use Rattle.pt_map.proofs.FramesSpent.{room_part}
 use Rattle.pt_map.proofs.BlockWords.{past_elsewhere, more}
 use Rattle.pt_map.specs.Stands.{IsEntryExtent}
 use Rattle.pt_tile.specs.Extents.{IsExtent, IsFirstTo, IsOneBlock, first_size, tables_below, tables_of, tiles, up_to, from}
 use Rattle.pt_map.proofs.StandAfter.{Keeps, keeps_here, stands_inside, stands_moves}
-
--- Needed positions below a level.
-
-pub below_has : (f : Layout) (level : ℕ) (x : Extent) (p : Position) → IsAmong (tables_of f x) p → p.level < level → IsAmong (tables_below f x level) p
-below_has f level x p h low = among_passes (λ q. nat_lt q.level level) (tables_of f x) p h (lt-ltb p.level level low)
-
-pub has_below : (f : Layout) (level : ℕ) (x : Extent) (p : Position) → IsAmong (tables_below f x level) p → IsAmong (tables_of f x) p × (p.level < level)
-has_below f level x p h = let r = among_filtered (λ q. nat_lt q.level level) (tables_of f x) p h in (r.0, ltb-true p.level level r.1)
 
 -- What blocks need, of which those of a part come last.
 module _ (f : Layout) (x z : Extent) (xs : List Block) (split : tiles f x ≡ xs ++ tiles f z) where

@@ -1,7 +1,7 @@
 -- The positions that a request needs and that a book lacks, against those that were found absent.
+use Rattle.std.proofs.lemmas.Bool.{not-true, not_from_false, and_from, and_parts, cases_lt, false_from_ne_true, false≢true, le-leb, lt-ltb, ltb-true, or_cases, or_left, or_right}
 use Rattle.std.proofs.Common.{◌≡◌, ◌⊎◌, ◌↔◌, ℕ, ◌+◌, ◌<◌, ◌≤◌, List, ◌++◌, Bool, true, false, inl, inr, refl, ap, sym, subst, ◌∙◌, arith, length-append, ◌-◌}
 use Rattle.std.specs.Prelude.{IsTrue, ◌&&◌, not, nat_le, nat_lt, filter, length}
-use Rattle.std.proofs.lemmas.Bool.{and_from, and_parts, cases_lt, false_from_ne_true, false≢true, le-leb, lt-ltb, ltb-true, or_cases, or_left, or_right}
 use Rattle.pt_model.specs.declared.block.Block.{Block}
 use Rattle.pt_model.specs.declared.position.Position.{Position}
 use Rattle.pt_model.specs.Layout.{Layout}
@@ -21,15 +21,6 @@ use Rattle.pt_map.proofs.NeededTables.{needs_over, needs_page, needs_sorted, nee
 use Rattle.pt_tile.specs.Extents.{IsExtent, tables_below, tables_of, tiles}
 use Rattle.pt_map.specs.Stands.{IsOwnTable}
 use Rattle.pt_tile.proofs.Needed.{needed_below}
-
--- tests
-
-false_not : (b : Bool) → not b ≡ true → b ≡ false
-false_not true e = absurd (false≢true e)
-false_not false e = refl
-
-not_true : (b : Bool) → b ≡ false → not b ≡ true
-not_true b e = ap not e
 
 -- The lacking positions of an extent, over which the top reaches.
 module _ {f : Layout} (good : IsLayout f) (v : View) (blocks : List Block) {x : Extent} (part : IsExtent f x) (start : f.start ≤ v.levels) (few : v.levels ≤ f.levels) (top : least_top f v.levels x.end ≤ v.top) where
@@ -62,13 +53,13 @@ module _ {f : Layout} (good : IsLayout f) (v : View) (blocks : List Block) {x : 
   pub lacks : (p : Position) → IsAmong (lacking f v blocks x) p → IsAmong (tables_of f x) p × (¬ IsAmong v.tables p) × (is_spine v.levels p ≡ false)
   lacks p h =
       let r = among_filtered (λ q. not (is_linked v.levels (book_of v blocks) q)) (all_needed f v.levels (tiles f x)) p h in
-      let no : is_linked v.levels (book_of v blocks) p ≡ false = false_not (is_linked v.levels (book_of v blocks) p) r.1 in
+      let no : is_linked v.levels (book_of v blocks) p ≡ false = not-true (is_linked v.levels (book_of v blocks) p) r.1 in
       let off : is_spine v.levels p ≡ false = false_from_ne_true (is_spine v.levels p) (λ spine. false≢true (sym no ∙ spine_linked p r.0 spine)) in
       ((same_off p off).0 r.0, (λ there. false≢true (sym no ∙ table_linked p there)), off)
 
   pub is_lacking : (p : Position) → IsAmong (tables_of f x) p → (¬ IsAmong v.tables p) → is_spine v.levels p ≡ false → IsAmong (lacking f v blocks x) p
   is_lacking p needed no_table no_spine =
-      among_passes (λ q. not (is_linked v.levels (book_of v blocks) q)) (all_needed f v.levels (tiles f x)) p ((same_off p no_spine).1 needed) (not_true (is_linked v.levels (book_of v blocks) p) (not_linked p no_table no_spine))
+      among_passes (λ q. not (is_linked v.levels (book_of v blocks) q)) (all_needed f v.levels (tiles f x)) p ((same_off p no_spine).1 needed) (not_from_false (is_linked v.levels (book_of v blocks) p) (not_linked p no_table no_spine))
 
   pub lacking_once : Once (lacking f v blocks x)
   lacking_once = sorted_once (lacking f v blocks x) (sorted_filter _ (all_needed f v.levels (tiles f x)) (needs_sorted f v.levels (tiles f x)))
@@ -76,7 +67,7 @@ module _ {f : Layout} (good : IsLayout f) (v : View) (blocks : List Block) {x : 
   is_unknown : (p : Position) → IsAmong (lacking f v blocks x) p → (¬ IsAmong v.known p) → IsAmong (unknown f v blocks x) p
   is_unknown p lacks unknown =
       among_passes (λ q. not (nat_lt 0 (places q v.known))) (lacking f v blocks x) p lacks
-      (not_true (nat_lt 0 (places p v.known)) (false_from_ne_true (nat_lt 0 (places p v.known)) (λ e. unknown (ltb-true 0 (places p v.known) e))))
+      (not_from_false (nat_lt 0 (places p v.known)) (false_from_ne_true (nat_lt 0 (places p v.known)) (λ e. unknown (ltb-true 0 (places p v.known) e))))
 
   -- The positions that were found absent below a level.
   module _ (level : ℕ) (below : level < f.levels) (absent : List Position) (once : Once absent)

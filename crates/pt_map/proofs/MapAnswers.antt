@@ -6,7 +6,6 @@ use Rattle.pt_model.specs.declared.block.Block.{Block}
 use Rattle.pt_model.specs.declared.block.Prot.{Prot}
 use Rattle.pt_model.specs.Layout.{Layout}
 use Rattle.pt_model.specs.Book.{map_refusal}
-use Rattle.pt_model.specs.Tables.{levels_between, starting_top}
 use Rattle.pt_format.specs.Laws.{IsLayout}
 use Rattle.pt_tile.specs.declared.extent.Extent.{Extent}
 use Rattle.pt_view.specs.declared.view.View.{View}
@@ -20,17 +19,9 @@ use Rattle.pt_map.specs.Requests.{EndsBelow, IsOfNumbers, MappedBelow, IsRefused
 use Rattle.pt_map.proofs.MapFromRoot.{Reached, owns_table, path_long, standing}
 use Rattle.pt_map.proofs.MapResults.{Standing, rested}
 use Rattle.pt_view.proofs.Loads.{loads_here}
-use Rattle.pt_map.proofs.MapFromTable.{refused_walked}
+use Rattle.pt_map.proofs.MapFromTable.{refused_walked, linked_same}
 use Rattle.pt_map.specs.declared.refused.MapRefused.TheVariants as refused
 use Rattle.pt_map.proofs.MapResults as results
-
--- what leaves the book leaves the count of linked positions
-pub linked_same : (v w : View) (aside : Aside) → SameRange v w → SameBook v w → linked_count w aside ≡ linked_count v aside
-linked_same v w aside range book = λ i. length (book.tables i) + length (levels_between (starting_top (range.levels i)) (book.top i)) + length aside.positions
-
--- so does a walk
-pub linked_walked : {tells : Type 0} (v w : View) (a b : Aside) → ByLoads tells v w → b ≡ a → linked_count w b ≡ linked_count v a
-linked_walked v w a b walked same = linked_same v w b walked.range walked.book ∙ ap (linked_count v) same
 
 -- the path is long enough to be left in the end
 pub left_path : {f : Layout} (good : IsLayout f) {tells alone : Type 0} {v u d : View} {x : Extent} {root level : ℕ} (alone_d : Type 0) (linked : ℕ) (w : View) (h : Reached f tells alone v u d x root level) (r : Result (Unit {0}) MapRefused) →

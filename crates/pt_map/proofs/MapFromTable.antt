@@ -9,7 +9,7 @@ use Rattle.pt_model.specs.declared.position.Position.{Position}
 use Rattle.pt_model.specs.Layout.{Layout}
 use Rattle.pt_model.specs.Pages.{byte_at}
 use Rattle.pt_model.specs.Sets.{IsSorted, IsAmong, one_if}
-use Rattle.pt_model.specs.Tables.{is_same, position_over}
+use Rattle.pt_model.specs.Tables.{is_same, position_over, levels_between, starting_top}
 use Rattle.pt_tile.proofs.Begun.{aligned_sum, coarse_is_fine}
 use Rattle.pt_format.specs.Laws.{IsLayout}
 use Rattle.pt_view.specs.declared.view.View.{View}
@@ -24,7 +24,7 @@ use Rattle.pt_view.proofs.Stays.{book_on, range_on}
 use Rattle.pt_view.proofs.Pieces.{has_page_here}
 use Rattle.pt_walk.proofs.Descent.{own_piece}
 use Rattle.pt_view.specs.Calls.{lowest, pieces_at}
-use Rattle.pt_view.specs.Views.{SameBook, SameRange}
+use Rattle.pt_view.specs.Views.{Aside, SameBook, SameRange, linked_count}
 use Rattle.pt_walk.specs.Walks.{IsFree, IsLowest, OwnsAll}
 use Rattle.pt_tile.specs.declared.extent.Extent.{Extent}
 use Rattle.pt_map.specs.declared.refused.MapRefused.{MapRefused}
@@ -81,6 +81,14 @@ table_ends index level log2 first base some low aligned whole within =
       | inl less ↦ (let h = mul-le (base / 2 ^ j + 1) (2 ^ j) (end / 2 ^ j) (2 ^ j) (omega arith) (omega arith) in omega arith)
       | inr more ↦ absurd (let h = mul-le (end / 2 ^ j) (2 ^ j) (base / 2 ^ j) (2 ^ j) more (omega arith) in omega arith)
     ]
+
+-- what leaves the book leaves the count of linked positions
+pub linked_same : (v w : View) (aside : Aside) → SameRange v w → SameBook v w → linked_count w aside ≡ linked_count v aside
+linked_same v w aside range book = λ i. length (book.tables i) + length (levels_between (starting_top (range.levels i)) (book.top i)) + length aside.positions
+
+-- so does a walk
+pub linked_walked : {tells : Type 0} (v w : View) (a b : Aside) → ByLoads tells v w → b ≡ a → linked_count w b ≡ linked_count v a
+linked_walked v w a b walked same = linked_same v w b walked.range walked.book ∙ ap (linked_count v) same
 
 -- A refusal before the count leaves the book.
 pub refused_walked : (f : Layout) (tells : Type 0) (v w : View) → ByLoads tells v w → w.path ≡ v.path → IsRefused f tells v w
@@ -144,7 +152,10 @@ module _ {f : Layout} (good : IsLayout f) {tells : Type 0} {v c g : View} {x : E
       }
 
   module _ {alone : Type 0} {cap : ℕ} (n : Counted f tells alone v c (tables_below f x level) cap absent) (free : IsFree f v x.first x.end) (is : cap ≡ v.frames + 1)
-      {alone_c : Type 0} {linked linked_c : ℕ} (to_c : alone → alone_c) (same : linked_c ≡ linked) where
+      {alone_c : Type 0} {old new : Aside} (to_c : alone → alone_c) (aside : new ≡ old) where
+    same : linked_count c new ≡ linked_count v old
+    same = linked_walked v c old new walked aside
+
     -- each table counted was shown absent
     told_on : tells → (facts : List Absence) × (g.absent ≡ v.absent ++ facts) × ((p : Position) → IsAmong n.absent p → IsTrue (is_shown f facts p))
     told_on t = let d = n.told t in (d.0, gathered.absences t ∙ d.1, d.2)
@@ -174,7 +185,7 @@ module _ {f : Layout} (good : IsLayout f) {tells : Type 0} {v c g : View} {x : E
     }
 
     -- frames lack
-    pub lack_below : (e : MapRefused) → IsLackOf tells alone_c linked_c c g absent e → RefusedBelow f tells alone linked v g x level e
+    pub lack_below : (e : MapRefused) → IsLackOf tells alone_c (linked_count c new) c g absent e → RefusedBelow f tells alone (linked_count v old) v g x level e
     lack_below refused.Misaligned h = absurd h
     lack_below refused.OutsideLease h = absurd h
     lack_below refused.OutputRange h = absurd h
@@ -199,18 +210,18 @@ module _ {f : Layout} (good : IsLayout f) {tells : Type 0} {v c g : View} {x : E
           cause = (
             free,
             subst (λ (m : ℕ). Counted f tells alone v g (tables_below f x level) (v.frames + 1) m) (sym h.0) counted_drawn,
-            subst (λ (m : ℕ). LacksFrames tells alone linked v g m held) (sym h.0) (record {
+            subst (λ (m : ℕ). LacksFrames tells alone (linked_count v old) v g m held) (sym h.0) (record {
               more = l.more;
               held_is = l.held_is;
               idle = λ over. l.idle (omega arith) ∙ walked.purse.purse;
               tried = λ t. elim (l.tried t) [ inl over ↦ inl (omega arith) | inr each ↦ inr (finds_before t each) ];
-              all = λ a. elim (l.all (to_c a)) [ inl over ↦ inl (omega arith) | inr sum ↦ inr (omega arith) ];
+              all = λ a. elim (l.all (to_c a)) [ inl over ↦ inl (omega arith) | inr sum ↦ inr (let s = same in omega arith) ];
             }),
           );
         }
 
     -- there are frames for all absent tables
-    module _ (has : HasFrames alone_c linked_c c g absent) where
+    module _ (has : HasFrames alone_c (linked_count c new) c g absent) where
       so_many : length n.absent ≡ absent
       so_many = let e = n.count_is in let h = has.frames in let s = walked.range.frames in omega arith
 
@@ -227,7 +238,7 @@ module _ {f : Layout} (good : IsLayout f) {tells : Type 0} {v c g : View} {x : E
         room = room;
       }
 
-      pub mapped_below : {w : View} → Fills f tells g w x level → MappedBelow f tells alone linked v w x level
+      pub mapped_below : {w : View} → Fills f tells g w x level → MappedBelow f tells alone (linked_count v old) v w x level
       mapped_below {w = w} fills =
           let filled = fills.filled in
           let spends = (fills.spends n.absent room).1 in
@@ -244,7 +255,7 @@ module _ {f : Layout} (good : IsLayout f) {tells : Type 0} {v c g : View} {x : E
             spared = (let s = gathered.spared in omega arith);
             few = (let s = spends.few in omega arith);
             capped = (let h = has.frames in omega arith);
-            room = λ a. (let h = has.few (to_c a) in let enough = has.held in omega arith);
+            room = λ a. (let h = has.few (to_c a) in let enough = has.held in let s = same in omega arith);
             range = range_on range_kept filled.range;
             path = filled.path ∙ path_kept;
             prepared = filled.prepared ∙ prepared_kept;

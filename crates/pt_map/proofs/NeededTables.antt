@@ -1,4 +1,5 @@
 -- The tables over the blocks of an extent, by their levels.
+use Rattle.std.proofs.lemmas.Bool.{ltb-false, not-true}
 use Rattle.std.proofs.Common.{◌≡◌, ℕ, zero, suc, ◌+◌, ◌-◌, ◌*◌, ◌/◌, ◌%◌, ◌^◌, ◌<◌, ◌≤◌, ◌⊎◌, ◌↔◌, List, [], ◌∷◌, ◌++◌, length, true, false, refl, ap, sym, subst, ◌∙◌, arith, inl, inr}
 use Rattle.std.specs.Prelude.{IsTrue, ◌==◌, filter, map, min, not, nat_le, nat_lt}
 use Rattle.std.specs.List.{range_with_len}
@@ -83,6 +84,14 @@ sorted_from f l (b ∷ bs) ps s = sorted_from f l bs (add_positions ps (needed f
 
 pub needs_sorted : (f : Layout) (l : ℕ) (bs : List Block) → IsSorted (all_needed f l bs)
 needs_sorted f l bs = sorted_from f l bs [] tt
+
+-- Needed positions below a level.
+
+pub below_has : (f : Layout) (level : ℕ) (x : Extent) (p : Position) → IsAmong (tables_of f x) p → p.level < level → IsAmong (tables_below f x level) p
+below_has f level x p h low = among_passes (λ q. nat_lt q.level level) (tables_of f x) p h (lt-ltb p.level level low)
+
+pub has_below : (f : Layout) (level : ℕ) (x : Extent) (p : Position) → IsAmong (tables_below f x level) p → IsAmong (tables_of f x) p × (p.level < level)
+has_below f level x p h = let r = among_filtered (λ q. nat_lt q.level level) (tables_of f x) p h in (r.0, ltb-true p.level level r.1)
 
 -- Runs of 2 ^ j pages.
 
@@ -288,9 +297,7 @@ module _ {f : Layout} (good : IsLayout f) where
           record { low = low; from = omega arith; to = omega arith }
 
       pub below_under : (p : Position) → IsAmong (tables_below f x level) p → LiesUnder f level x.first p
-      below_under p h =
-          let r = among_filtered (λ q. nat_lt q.level level) (tables_of f x) p h in
-          needs_under p r.0 (ltb-true p.level level r.1)
+      below_under p h = let r = has_below f level x p h in needs_under p r.0 r.1
 
       small_step : first_size f x ≤ f.index * level
       small_step =
@@ -317,7 +324,7 @@ module _ {f : Layout} (good : IsLayout f) where
           (λ p m.
           let r = among_filtered (λ q. not (nat_lt q.level level)) (tables_of f x) p m in
           let among : IsAmong (tables_of f x) p = r.0 in
-          let above : level ≤ p.level = not_below p.level level r.1 in
+          let above : level ≤ p.level = ltb-false p.level level (not-true (nat_lt p.level level) r.1) in
           let page = needs_page p among in
           let within : p.level < f.levels = page.3 in
           subst (λ (q : Position). IsAmong (map (position_over f x.first) (range_with_len level (f.levels - level))) q) (needs_over level in_table p among above)
@@ -329,12 +336,6 @@ module _ {f : Layout} (good : IsLayout f) where
           (among_passes (λ o. not (nat_lt o.level level)) (tables_of f x) (position_over f x.first r.0)
           ((high_needed r.0 from (omega arith)))
           (ap not (le-ltb r.0 level from))))
-        where
-          not_below : (a b : ℕ) → not (nat_lt a b) ≡ true → b ≤ a
-          not_below a b e = elim (cases_lt a b) [
-            | inl low ↦ absurd (false≢true (sym (ap not (lt-ltb a b low)) ∙ e))
-            | inr fine ↦ fine
-          ]
 
       -- how many they are
       pub count_needed : length (tables_of f x) ≡ length (tables_below f x level) + (f.levels - level)

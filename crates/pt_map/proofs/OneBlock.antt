@@ -1,4 +1,5 @@
 -- An extent that is one block of the path's last table: nothing is counted, drawn or linked for it.
+use Rattle.pt_view.specs.Views.{Aside, linked_count}
 use Rattle.std.proofs.Common.{◌≡◌, ℕ, ◌+◌, ◌*◌, ◌/◌, ◌%◌, ◌^◌, ◌≤◌, ◌++◌, refl, ap, sym, ◌∙◌, subst, arith}
 use Rattle.pt_model.specs.Layout.{Layout, pages_of_entry}
 use Rattle.pt_format.specs.Laws.{IsLayout}
@@ -70,11 +71,11 @@ module _ {f : Layout} (good : IsLayout f) {tells : Type 0} {v b : View} {x : Ext
   to = is.whole ∙ ap (λ (j : ℕ). x.first + 2 ^ j) is.size ∙ (let one : x.first + 2 ^ first_size f x ≡ x.first + 1 * 2 ^ first_size f x = omega arith in one)
       ∙ sym (run_shifted good may.stands.at.extent run log2 is.size)
 
-  pub block_mapped : {alone alone_b : Type 0} {linked linked_b : ℕ} → (alone → alone_b) → linked_b ≡ linked → (alone_b → linked_b + held_count b ≤ b.frames) →
-      {w : View} → StoresRun f tells b w 1 (block log2 x) → MappedBelow f tells alone linked v w x level
-  block_mapped {alone = alone} {alone_b = alone_b} {linked = linked} {linked_b = linked_b} still same few stored =
+  pub block_mapped : {alone alone_b : Type 0} {old new : Aside} → (alone → alone_b) → new ≡ old → (alone_b → linked_count b new + held_count b ≤ b.frames) →
+      {w : View} → StoresRun f tells b w 1 (block log2 x) → MappedBelow f tells alone (linked_count v old) v w x level
+  block_mapped {alone = alone} {alone_b = alone_b} {old = old} {new = new} still same few stored =
       let none = none_below good stores log2 is.size is.high run x.end to in
       mapped_below good may walked path (gathered_none tells b 0) (nothing_counted f tells alone v b (tables_below f x level) (v.frames + 1) walked none) free refl
-      {alone_c = alone_b} {linked = linked} {linked_c = linked_b} still same
+      {alone_c = alone_b} {old = old} {new = new} still same
       (record { held = omega arith; frames = omega arith; few = λ a. let h = few a in omega arith })
       (fills_run good stores log2 is.size is.high run x.end to stored)

@@ -1,9 +1,9 @@
 -- The tables of a book after a map, and that each of them has a piece under it.
+use Rattle.std.proofs.lemmas.Bool.{not-true, cases_Bool, and_parts, leb-true, false≢true, false_from_ne_true}
 use Rattle.pt_view.specs.Views.{SameBook}
 use Rattle.std.proofs.Common.{◌≡◌, ℕ, suc, ◌+◌, ◌-◌, ◌*◌, ◌/◌, ◌<◌, ◌≤◌, ◌⊎◌, ◌↔◌, List, [], ◌∷◌, Bool, true, false, inl, inr, refl, ap, sym, subst, ◌∙◌, arith}
 use Rattle.std.specs.Prelude.{IsTrue, nat_le, not, filter, length, slice_index_or, AllPairs}
 use Rattle.std.specs.List.{list_any}
-use Rattle.std.proofs.lemmas.Bool.{cases_Bool, and_parts, leb-true, false≢true, false_from_ne_true}
 use Rattle.std.proofs.lemmas.Nat.{pow_pos, shr_split, mod_below}
 use Rattle.pt_model.specs.declared.block.Block.{Block}
 use Rattle.pt_model.specs.declared.position.Position.{Position}
@@ -131,14 +131,10 @@ module _ {f : Layout} (good : IsLayout f) (v : View) {x : Extent} (part : IsExte
         (λ h. (same p).1 (elim h [
           | inl old ↦ inl old
           | inr new ↦ (let r = among_filtered off all p new in
-              let off = false_of (is_spine v.levels p) r.1 in inr ((needed_same good part v.levels start few p off).0 r.0, off))
+              let off = not-true (is_spine v.levels p) r.1 in inr ((needed_same good part v.levels start few p off).0 r.0, off))
         ])),
       ))
       ∙ ap (λ (ps : List Position). add_positions ps (filter off all)) (sym stays)
-    where
-      false_of : (b : Bool) → not b ≡ true → b ≡ false
-      false_of true e = absurd (false≢true e)
-      false_of false e = refl
 
   -- each table after has a piece under it
   pub full_after : (w : View) → HasNoEmptyTable f v → w.pieces ≡ add_pieces f v.pieces (all_pieces f (tiles f x)) →

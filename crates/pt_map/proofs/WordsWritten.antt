@@ -1,7 +1,7 @@
 -- The words of a block may be written.
+use Rattle.std.proofs.lemmas.Bool.{not-true, and_from, and_parts, cases_Bool, false≢true, le-leb, leb-true, ltb-true}
 use Rattle.std.proofs.Common.{◌≡◌, ℕ, ◌+◌, ◌-◌, ◌*◌, ◌^◌, ◌<◌, ◌≤◌, List, [], ◌∷◌, Bool, true, false, inl, inr, refl, ap, sym, ◌∙◌, subst, arith}
 use Rattle.std.specs.Prelude.{◌↔◌, ◌&&◌, nat_le, nat_lt, not}
-use Rattle.std.proofs.lemmas.Bool.{and_from, and_parts, cases_Bool, false≢true, le-leb, leb-true, ltb-true}
 use Rattle.std.proofs.lemmas.Nat.{pow_pos}
 use Rattle.pt_model.specs.declared.position.Position.{Position}
 use Rattle.pt_model.specs.declared.block.Block.{Block}
@@ -28,13 +28,9 @@ use Rattle.pt_tile.specs.Counting.{at_level}
 -- the positions of a path that aren't of the spine
 pub among_off : (levels : ℕ) (path : List Node) (p : Position) → IsAmong (off_spine levels path) p ↔ (IsAmong (positions path) p × (is_spine levels p ≡ false))
 among_off levels path p = (
-  (λ h. let r = among_filtered (λ q. not (is_spine levels q)) (positions path) p h in (r.0, false_of (is_spine levels p) r.1)),
+  (λ h. let r = among_filtered (λ q. not (is_spine levels q)) (positions path) p h in (r.0, not-true (is_spine levels p) r.1)),
   (λ h. among_passes (λ q. not (is_spine levels q)) (positions path) p h.0 (ap not h.1)),
 )
-  where
-    false_of : (b : Bool) → not b ≡ true → b ≡ false
-    false_of true e = absurd (false≢true e)
-    false_of false e = refl
 
 -- the part that a block is
 abbrev pub block_part : Block → Extent

@@ -5,8 +5,8 @@ use Rattle.pt_view.specs.Views.{linked_count}
 use Rattle.pt_map.specs.Requests.{Gathered, IsLackOf}
 use Rattle.pt_map.specs.declared.refused.MapRefused.TheVariants.{NoFrames}
 use Rattle.pt_map.proofs.FramesDrawn.{fell_short, gathered_none, too_many_absent}
-use Rattle.pt_map.proofs.MapAnswers.{linked_same}
 use Rattle.pt_map.proofs.request.gather.Goals.{then-absent-from, else-absent-from}
+use Rattle.pt_map.proofs.MapFromTable.{linked_same}
 use Rattle.pt_map.proofs.request.gather.Goals as goal
 
 pub returns-then-absent-from-2-clause-gathers : goal.returns-then-absent-from-2-clause-gathers

@@ -4,7 +4,6 @@ use Rattle.pt_walk.specs.Walks.{IsFree}
 use Rattle.pt_tile.specs.Extents.{tables_below}
 use Rattle.pt_map.specs.Absent.{Counted}
 use Rattle.pt_map.proofs.MapFromTable.{lack_below, mapped_below, may_fill, occupied_below}
-use Rattle.pt_map.proofs.MapAnswers.{linked_walked}
 use Rattle.pt_map.proofs.request.map_below.Given.{Over}
 use Rattle.pt_map.proofs.request.map_below.Goals.{In-Absent}
 use Rattle.pt_map.proofs.request.map_below.Goals as goal
@@ -35,8 +34,7 @@ returns-in_err-gather-in-Absent-clause-ends g c =
     let p = err_from_is_err_and c.from_residual.result c.from_residual.ensures.1 in
     rw (p.1, p.2)
     (lack_below g.met.F.Format.lawful_layout c.requires look.surveyed.walked look.surveyed.path c.in_err-gather-in-Absent.ensures.gathers.0 h.1 h.0 (cap_is g at)
-    (λ a. look.stays.still_alone a)
-    (linked_walked (g.H.Holder.view c.args.holder.now) (g.H.Holder.view c.survey.new.holder) (g.H.Holder.aside c.args.holder.now) (g.H.Holder.aside c.survey.new.holder) look.surveyed.walked look.stays.same_aside)
+    look.stays.still_alone look.stays.same_aside
     c.in_err-gather-in-Absent.field-0.0 c.in_err-gather-in-Absent.ensures.gathers.1)
 
 pub fill-requires : goal.fill-requires
@@ -46,8 +44,7 @@ fill-requires g c =
     let h = found g at in
     let got = c.in_ok-gather-in-Absent.ensures.gathers in
     may_fill g.met.F.Format.lawful_layout c.requires look.surveyed.walked look.surveyed.path got.0 h.1 h.0 (cap_is g at)
-    (λ a. look.stays.still_alone a)
-    (linked_walked (g.H.Holder.view c.args.holder.now) (g.H.Holder.view c.survey.new.holder) (g.H.Holder.aside c.args.holder.now) (g.H.Holder.aside c.survey.new.holder) look.surveyed.walked look.stays.same_aside)
+    look.stays.still_alone look.stays.same_aside
     got.1
 
 pub returns-in_ok-gather-in-Absent-clause-ends : goal.returns-in_ok-gather-in-Absent-clause-ends
@@ -57,6 +54,5 @@ returns-in_ok-gather-in-Absent-clause-ends g c =
     let h = found g at in
     let got = c.in_ok-gather-in-Absent.ensures.gathers in
     mapped_below g.met.F.Format.lawful_layout c.requires look.surveyed.walked look.surveyed.path got.0 h.1 h.0 (cap_is g at)
-    (λ a. look.stays.still_alone a)
-    (linked_walked (g.H.Holder.view c.args.holder.now) (g.H.Holder.view c.survey.new.holder) (g.H.Holder.aside c.args.holder.now) (g.H.Holder.aside c.survey.new.holder) look.surveyed.walked look.stays.same_aside)
+    look.stays.still_alone look.stays.same_aside
     got.1 c.fill.ensures.fills

@@ -3,7 +3,6 @@ use Rattle.pt_model.specs.declared.block.Block.{Block}
 use Rattle.pt_view.specs.declared.view.View.{View}
 use Rattle.pt_map.specs.Filled.{MayStoreRun, StoresRun}
 use Rattle.pt_map.proofs.MapFromTable.{occupied_below}
-use Rattle.pt_map.proofs.MapAnswers.{linked_walked}
 use Rattle.pt_map.proofs.OneBlock.{block_end, block_mapped, block_may}
 use Rattle.pt_map.proofs.request.map_entry.Goals as goal
 
@@ -27,6 +26,5 @@ pub returns-clause-ends : goal.returns-clause-ends
 returns-clause-ends g c =
     let first = c.first_at.ensures in
     block_mapped g.met.F.Format.lawful_layout c.requires.may c.requires.block first.walked first.path (c.in_default.ensures.lowest c.requires.may.clear)
-    first.stays.still_alone
-    (linked_walked (g.H.Holder.view c.args.holder.now) (g.H.Holder.view c.first_at.new.holder) (g.H.Holder.aside c.args.holder.now) (g.H.Holder.aside c.first_at.new.holder) first.walked first.stays.same_aside)
+    first.stays.still_alone first.stays.same_aside
     c.purse-held.ensures.few (subst (λ (b : Block). StoresRun g.F.Format.layout g.H.Holder.tells (g.H.Holder.view c.first_at.new.holder) (g.H.Holder.view c.write_entry.new.holder) 1 b) c.block.ensures c.write_entry.ensures.stored)

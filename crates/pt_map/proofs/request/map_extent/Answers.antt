@@ -3,10 +3,11 @@ use Rattle.pt_model.specs.Layout.{pages_of_entry}
 use Rattle.pt_tile.proofs.FirstSizes.{size_small}
 use Rattle.pt_view.specs.Views.{linked_count}
 use Rattle.pt_map.proofs.MapFromRoot.{Begun, Reached, clear_here, low_size, may_map, owns_root, range_root, to_table}
-use Rattle.pt_map.proofs.MapAnswers.{Done, accounts, answers, full_after, left_path, linked_walked, rests_after}
+use Rattle.pt_map.proofs.MapAnswers.{Done, accounts, answers, full_after, left_path, rests_after}
 use Rattle.pt_map.proofs.OneBlock.{block_end}
 use Rattle.pt_map.proofs.request.map_extent.Given.{Over}
 use Rattle.pt_map.proofs.request.map_extent.Goals.{After-INDEX, After-climb, After-descend-level, After-map_at-mapped}
+use Rattle.pt_map.proofs.MapFromTable.{linked_walked}
 use Rattle.pt_map.proofs.request.map_extent.Goals as goal
 
 -- What is known at the root, at the table over all of the extent, and at the end.
