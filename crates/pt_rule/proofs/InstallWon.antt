@@ -1,8 +1,7 @@
 -- An install that was won: the prepared frame is linked at the child of a zero entry, which is then its pointer.
-use Rattle.std.proofs.Common.{◌≡◌, ◌≢◌, ◌⊎◌, inl, inr, ℕ, Bool, true, false, ◌+◌, ◌-◌, ◌*◌, ◌/◌, ◌%◌, ◌^◌, ◌<◌, ◌≤◌, List, set, sym, refl, ap, ◌∙◌, subst, arith, ⊎_elim, ne_eqb, eq-eqb}
+use Rattle.std.proofs.Common.{◌≡◌, ◌≢◌, ◌⊎◌, inl, inr, ℕ, Bool, true, false, ◌+◌, ◌-◌, ◌*◌, ◌/◌, ◌%◌, ◌^◌, ◌<◌, ◌≤◌, List, set, sym, refl, ap, ◌∙◌, subst, arith, ⊎_elim, eq-eqb}
 use Rattle.std.specs.Prelude.{IsTrue, nat_le, nat_lt, ◌&&◌, ◌||◌, ◌==◌, if◌then◌else◌, slice_index, slice_set, Option, None, Some}
-use Rattle.std.specs.List.{AllByRecursion}
-use Rattle.std.proofs.lemmas.Bool.{and_parts, and_from, or_left, or_right, le-leb, lt-ltb, ltb-true, false≢true, false_from_ne_true}
+use Rattle.std.proofs.lemmas.Bool.{and_from, or_left, or_right, le-leb, lt-ltb, false≢true, false_from_ne_true}
 use mathlib.Core.Option.{some, some-injective}
 use mathlib.Core.Logic.{dite}
 use native.Mathlib.Decide.{ℕ_discrete, dec_le}
@@ -16,24 +15,24 @@ use Rattle.pt_format.specs.Words.{IsTableLevel, IsTableAddress}
 use Rattle.pt_format.specs.Laws.{IsLayout, WordsDiffer}
 use Rattle.pt_view.specs.declared.view.View.{View}
 use Rattle.pt_view.specs.declared.view.Prepared.{Prepared}
-use Rattle.pt_model.specs.Sets.{one_if, places, IsAmong}
-use Rattle.pt_view.specs.Pieces.{table_of}
+use Rattle.pt_model.specs.Sets.{places, IsAmong}
 use Rattle.pt_view.specs.Views.{SameRange}
 use Rattle.pt_view.specs.Calls.{meets_span, with_table}
-use Rattle.pt_rule.specs.Totals.{total, bridge_in, bridge_pointer, has_bridge, has_piece, has_table, has_word, holds, is_prepared, prepares}
-use Rattle.pt_rule.specs.Tags.{IsTag, is_held, is_placed}
+use Rattle.pt_rule.specs.Totals.{total, bridge_in, bridge_pointer, has_bridge, has_piece, has_table, has_word, is_prepared, prepares}
+use Rattle.pt_rule.specs.Tags.{is_placed}
 use Rattle.pt_rule.specs.Linked.{IsLinked, IsLinkedAt, is_in_tree}
-use Rattle.pt_rule.specs.Lawful.{Lawful, BooksPart, EntriesPart, FramesPart, HasBridge, HasPath, IsBridged, IsOnPath, IsOwnPiece, IsOwnTable, IsPreparedAt, ParentsPart, PathsPart, PositionsPart, RootPart, has_child, slot_of}
+use Rattle.pt_rule.specs.Lawful.{Lawful, BooksPart, EntriesPart, FramesPart, IsOnPath, IsOwnPiece, IsOwnTable, ParentsPart, PathsPart, RootPart, has_child, slot_of}
 use Rattle.pt_model.proofs.Places.{entry_else, entry_same, length_kept, root_after_entry, tag_after_entry}
-use Rattle.pt_rule.proofs.TotalsKept.{at_inside, each_set, total_at, total_only, total_same, total_set, total_two}
-use Rattle.pt_model.proofs.Positions.{among_cases, bit_false, bit_le, bit_true, is_same_self, same_cases}
+use Rattle.pt_rule.proofs.TotalsKept.{at_inside, each_set, total_at, total_only, total_same, total_two}
+use Rattle.pt_model.proofs.Positions.{among_cases, bit_le, bit_true, is_same_self, same_cases}
 use Rattle.pt_view.proofs.Members.{all_map}
-use Rattle.pt_rule.proofs.PartsKept.{prepared_moved, prepared_within, prepares_here, spans_set, books_set, busy_set, known_set, purses_same, sizes_same}
+use Rattle.pt_rule.proofs.PartsKept.{prepared_within, prepares_here, books_set, known_set}
 use Rattle.pt_rule.proofs.PositionFacts.{child_of_parent, parent_of_child, slot_below, slot_of_child}
 use Rattle.pt_rule.proofs.PieceFacts.{word_some}
-use Rattle.pt_rule.proofs.TreeFacts.{an_empty, a_piece, a_child, entry_is, is_position, linked_there, level_low, no_words_of, one_frame, piece_home, placed_back, prepared_tag, table_there, there_position}
+use Rattle.pt_rule.proofs.TreeFacts.{an_empty, a_piece, a_child, entry_is, is_position, linked_there, level_low, no_words_of, one_frame, piece_home, prepared_tag, table_there, there_position}
 use Rattle.pt_rule.proofs.TablesAdded.{with_all, with_cases, with_kept, with_new, with_order}
 use Rattle.pt_rule.proofs.FindsKept.{piece_kept, table_kept, tree_found}
+use Rattle.pt_rule.proofs.NewTable as linking
 use Rattle.pt_rule.proofs.LookKept.{StandsAt, child_meets, entered, path_more, pointer_facts}
 
 -- a frame that a view doesn't prepare has no bridge of it
@@ -141,50 +140,20 @@ module _ (f : Layout) (n l : ℕ) (good : IsLayout f) (d : WordsDiffer f) (words
 
   -- The frames that are linked.
 
-  prepares_after : (h : ℕ) → total (prepares h) views' + prepares h v ≡ total (prepares h) views
-  prepares_after h = let t = total_set (prepares h) views id v w at in omega arith
-
-  prepares_else : (h : ℕ) → h ≢ g → prepares h v ≡ 0
-  prepares_else h ne = ap (λ (o : Option Prepared). one_if (is_prepared h o)) prepared ∙ bit_false (g == h) (ne_eqb g h (λ e. ne (sym e)))
-
-  g_free : total (prepares g) views' ≡ 0
-  g_free = let t = prepares_after g in omega (arith, t, g_once, g_mine)
-
   g_unlinked : IsLinked n words views g → ⊥
-  g_unlinked b = let none = b.unprepared in omega (arith, none, g_once)
+  g_unlinked = linking.g_unlinked good words' id r at prepared w.top w.tables w.known w.path tags_kept
 
   to_linked : (h : ℕ) → IsLinked n words views h → IsLinked n words' views' h
-  to_linked h b = record {
-    within = b.within;
-    placed = ap is_placed (tags_kept h b.within) ∙ b.placed;
-    unprepared = let t = prepares_after h in let none = b.unprepared in omega arith;
-  }
-
-  g_linked : IsLinked n words' views' g
-  g_linked = record {
-    within = g_in;
-    placed = ap is_placed (tags_kept g g_in ∙ g_tag) ∙ placed_is_placed child;
-    unprepared = g_free;
-  }
-
-  back_linked : (h : ℕ) → h ≢ g → IsLinked n words' views' h → IsLinked n words views h
-  back_linked h ne b = record {
-    within = b.within;
-    placed = sym (ap is_placed (tags_kept h b.within)) ∙ b.placed;
-    unprepared = let t = prepares_after h in let none = b.unprepared in let z = prepares_else h ne in omega arith;
-  }
-
-  to_linked_at : (h : ℕ) (q : Position) → IsLinkedAt n words views h q → IsLinkedAt n words' views' h q
-  to_linked_at h q b = record { is_linked = to_linked h b.is_linked; at = ap placed_at (tags_kept h b.is_linked.within) ∙ b.at }
+  to_linked = linking.to_linked good words' id r at prepared w.top w.tables w.known w.path tags_kept
 
   g_linked_at : IsLinkedAt n words' views' g child
-  g_linked_at = record { is_linked = g_linked; at = ap placed_at (tags_kept g g_in ∙ g_tag) ∙ placed_back child child_low }
+  g_linked_at = linking.g_linked_at good words' id r at prepared w.top w.tables w.known w.path tags_kept
 
-  -- a linked frame is the new one at the child, or was linked where it is
+  to_linked_at : (h : ℕ) (q : Position) → IsLinkedAt n words views h q → IsLinkedAt n words' views' h q
+  to_linked_at = linking.to_linked_at good words' id r at prepared w.top w.tables w.known w.path tags_kept
+
   back_linked_at : (h : ℕ) (q : Position) → IsLinkedAt n words' views' h q → ((h ≡ g) × (q ≡ child)) ⊎ IsLinkedAt n words views h q
-  back_linked_at h q b = dite (ℕ_discrete h g)
-      (λ e. inl (e, sym b.at ∙ ap (λ (k : ℕ). placed_at (tag words' k)) e ∙ g_linked_at.at))
-      (λ ne. inr (record { is_linked = back_linked h ne b.is_linked; at = sym (ap placed_at (tags_kept h b.is_linked.within)) ∙ b.at }))
+  back_linked_at = linking.back_linked_at good words' id r at prepared w.top w.tables w.known w.path tags_kept
 
   -- The tree.
 
@@ -211,12 +180,6 @@ module _ (f : Layout) (n l : ℕ) (good : IsLayout f) (d : WordsDiffer f) (words
 
   -- The parts.
 
-  pieces_kept : (q : Position) (i : ℕ) → total (has_piece f q i) views' ≡ total (has_piece f q i) views
-  pieces_kept q i = total_same (has_piece f q i) views id v w at refl
-
-  words_kept : (q : Position) (i : ℕ) → total (has_word f q i) views' ≡ total (has_word f q i) views
-  words_kept q i = total_same (has_word f q i) views id v w at refl
-
   -- no view has a bridge in the frame, and its entries are zero
   bridges_kept : (h i : ℕ) → total (has_bridge f h i) views' ≡ total (has_bridge f h i) views
   bridges_kept h i = total_same (has_bridge f h i) views id v w at (sym (ap (bridge_in f h i) prepared ∙ no_bridge f h i g child))
@@ -232,51 +195,11 @@ module _ (f : Layout) (n l : ℕ) (good : IsLayout f) (d : WordsDiffer f) (words
   g_other : g ≢ frame
   g_other e = g_unlinked (subst (IsLinked n words views) (sym e) s.linked.is_linked)
 
-  bridge_kept : (levels : ℕ) (q : Position) (o : Option ℕ) → HasBridge f n words views levels q o → HasBridge f n words' views' levels q o
-  bridge_kept levels q None b = tt
-  bridge_kept levels q (Some h) b = (b.0, b.1, to_linked_at h (spine_position b.0) b.2, b.3)
-
-  bridged_kept : (levels : ℕ) (o : Option Prepared) → IsBridged f n words views levels o → IsBridged f n words' views' levels o
-  bridged_kept levels None b = tt
-  bridged_kept levels (Some x) b = bridge_kept levels x.position x.bridge b
-
   frames_won : FramesPart f n words' views'
-  frames_won = record {
-    tags = λ h lt. subst (IsTag f) (sym (tags_kept h lt)) (r.frames.tags h lt);
-    held = λ h lt. total_same (holds h) views id v w at refl ∙ r.frames.held h lt ∙ ap (λ (t : ℕ). one_if (is_held t)) (sym (tags_kept h lt));
-    prepared = λ h lt. let t = prepares_after h in let few = r.frames.prepared h lt in
-        let same : one_if (is_placed (tag words' h)) ≡ one_if (is_placed (tag words h)) = ap (λ (t : ℕ). one_if (is_placed t)) (tags_kept h lt) in omega arith;
-    none_held = λ h le. total_same (holds h) views id v w at refl ∙ r.frames.none_held h le;
-    none_prepared = λ h le. let t = prepares_after h in let none = r.frames.none_prepared h le in omega arith;
-    at = each_set (λ u. IsPreparedAt words u.prepared) (λ u. IsPreparedAt words' u.prepared) views id v w at tt
-        (λ j u ne here b. prepared_moved words words' u.prepared (λ x e. tags_kept x.frame (prepared_within f n words views j u x r.frames here e)) b) r.frames.at;
-    bridges = each_set (λ u. IsBridged f n words views u.levels u.prepared) (λ u. IsBridged f n words' views' u.levels u.prepared) views id v w at tt
-        (λ j u ne here b. bridged_kept u.levels u.prepared b) r.frames.bridges;
-    cleared = λ h i lt unlinked small.
-        entry_kept h i small (λ e _. unlinked (subst (IsLinked n words' views') (sym e) (to_linked frame s.linked.is_linked)))
-        ∙ r.frames.cleared h i lt (λ b. unlinked (to_linked h b)) small ∙ sym (bridges_kept h i);
-  }
-
-  positions_won : PositionsPart f n l words' views'
-  positions_won = record {
-    distinct = λ x y b c e.
-        let same : tag words x ≡ tag words y = sym (tags_kept x b.within) ∙ e ∙ tags_kept y c.within in
-        dite (ℕ_discrete x g)
-        (λ is_x. dite (ℕ_discrete y g) (λ is_y. is_x ∙ sym is_y)
-        (λ not_y. absurd (not_there (tree_of y (back_linked y not_y c) (sym same ∙ ap (tag words) is_x ∙ g_tag)))))
-        (λ not_x. dite (ℕ_discrete y g) (λ is_y. absurd (not_there (tree_of x (back_linked x not_x b) (same ∙ ap (tag words) is_y ∙ g_tag))))
-        (λ not_y. r.positions.distinct x y (back_linked x not_x b) (back_linked y not_y c) same));
-    in_tree = λ h b. dite (ℕ_discrete h g)
-        (λ e. subst There' (sym g_linked_at.at ∙ ap (λ (k : ℕ). placed_at (tag words' k)) (sym e)) tree_child)
-        (λ ne. subst There' (ap placed_at (sym (tags_kept h b.within))) (to_tree (placed_at (tag words h)) (r.positions.in_tree h (back_linked h ne b))));
-    all = λ q t. ⊎_elim
-        (λ (e : q ≡ child). (g, subst (IsLinkedAt n words' views' g) (sym e) g_linked_at))
-        (λ (old : There q). let a : (h : ℕ) × IsLinkedAt n words views h q = r.positions.all q old in (a.0, to_linked_at a.0 q a.1))
-        (back_tree q t);
-  }
-    where
-      tree_of : (h : ℕ) → IsLinked n words views h → tag words h ≡ placed_word child → There child
-      tree_of h b e = subst There (ap placed_at e ∙ placed_back child child_low) (r.positions.in_tree h b)
+  frames_won = linking.frames_won good words' id r at prepared w.top w.tables w.known w.path tags_kept
+      (λ h i lt unlinked small.
+      entry_kept h i small (λ e _. unlinked (subst (IsLinked n words' views') (sym e) (to_linked frame s.linked.is_linked)))
+      ∙ r.frames.cleared h i lt (λ b. unlinked (to_linked h b)) small ∙ sym (bridges_kept h i))
 
   root_won : RootPart n words' views'
   root_won = record {
@@ -352,38 +275,22 @@ module _ (f : Layout) (n l : ℕ) (good : IsLayout f) (d : WordsDiffer f) (words
       (λ k. total (has_piece f (is_p k) (is_number k)) views) ∙ nothing_there.0)
 
   no_piece_in : (i : ℕ) → total (has_piece f child i) views ≡ 0
-  no_piece_in i = dite (dec_le (total (has_piece f child i) views) 0) (λ none. omega arith)
-      (λ some_one. absurd (not_there (piece_home f n l words views good r child i (omega arith)).0))
+  no_piece_in = linking.no_piece_in good words' id r at prepared w.top w.tables w.known w.path tags_kept not_there tree_child to_tree back_tree
 
   entries_won : EntriesPart f n l words' views'
-  entries_won = record {
-    words_are = λ h i q b small childless. ⊎_elim
-        (λ (new : (h ≡ g) × (q ≡ child)).
-        (λ k. entry_of f n words' (new.0 k) i) ∙ entry_kept g i small (λ e _. g_other e) ∙ g_cleared i small
-        ∙ sym (words_kept q i ∙ ap (λ (y : Position). total (has_word f y i) views) new.1 ∙ no_words_of f child i views (no_piece_in i)))
-        (λ (old : IsLinkedAt n words views h q).
-        entry_kept h i small
-        (λ is_frame is_number.
-        let is_p : q ≡ p = sym old.at ∙ ap (λ (k : ℕ). placed_at (tag words k)) is_frame ∙ s.linked.at in
-        let yes : has_child f l words' views' p number ≡ true = and_from (nat_lt 0 p.level) _ (lt-ltb 0 p.level high) tree_child in
-        false≢true (sym childless ∙ (λ k. has_child f l words' views' (is_p k) (is_number k)) ∙ yes))
-        ∙ r.entries.words_are h i q old small
-        (false_from_ne_true (has_child f l words views q i) (λ yes.
-        let b : (nat_lt 0 q.level ≡ true) × There (child_at f q i) = and_parts (nat_lt 0 q.level) _ yes in
-        false≢true (sym childless ∙ and_from (nat_lt 0 q.level) _ b.0 (to_tree (child_at f q i) b.1))))
-        ∙ sym (words_kept q i))
-        (back_linked_at h q b);
-    apart = λ i q yes. pieces_kept q i
-        ∙ (let b : (nat_lt 0 q.level ≡ true) × There' (child_at f q i) = and_parts (nat_lt 0 q.level) _ yes in
-        ⊎_elim (λ (e : child_at f q i ≡ child). no_piece_over q i (ltb-true 0 q.level b.0) e)
-        (λ (old : There (child_at f q i)). r.entries.apart i q (and_from (nat_lt 0 q.level) _ b.0 old)) (back_tree (child_at f q i) b.1));
-    once = λ i q. subst (λ (t : ℕ). t ≤ 1) (sym (pieces_kept q i)) (r.entries.once i q);
-    homes = each_set (λ u. AllByRecursion (λ x. There (table_of f x)) u.pieces) (λ u. AllByRecursion (λ x. There' (table_of f x)) u.pieces) views id v w at
-        (home v (r.entries.homes id v at)) (λ j u ne here b. home u b) r.entries.homes;
-  }
-    where
-      home : (u : View) → AllByRecursion (λ x. There (table_of f x)) u.pieces → AllByRecursion (λ x. There' (table_of f x)) u.pieces
-      home u = all_map (λ x. There (table_of f x)) (λ x. There' (table_of f x)) u.pieces (λ x t. to_tree (table_of f x) t)
+  entries_won = linking.entries_won good words' id r at prepared w.top w.tables w.known w.path tags_kept not_there tree_child to_tree back_tree no_piece_over
+      (λ h i q b small childless. ⊎_elim
+      (λ (new : (h ≡ g) × (q ≡ child)).
+      (λ k. entry_of f n words' (new.0 k) i) ∙ entry_kept g i small (λ e _. g_other e) ∙ g_cleared i small
+      ∙ sym (linking.words_kept good words' id r at prepared w.top w.tables w.known w.path tags_kept q i ∙ ap (λ (y : Position). total (has_word f y i) views) new.1 ∙ no_words_of f child i views (no_piece_in i)))
+      (λ (old : IsLinkedAt n words views h q).
+      linking.words_still good words' id r at prepared w.top w.tables w.known w.path tags_kept h i q to_tree
+      (entry_kept h i small
+      (λ is_frame is_number.
+      let is_p : q ≡ p = sym old.at ∙ ap (λ (k : ℕ). placed_at (tag words k)) is_frame ∙ s.linked.at in
+      let yes : has_child f l words' views' p number ≡ true = and_from (nat_lt 0 p.level) _ (lt-ltb 0 p.level high) tree_child in
+      false≢true (sym childless ∙ (λ k. has_child f l words' views' (is_p k) (is_number k)) ∙ yes))) old small childless)
+      (back_linked_at h q b))
 
   range_kept : SameRange v w
   range_kept = record { frames = refl; levels = refl; first = refl; count = refl }
@@ -408,33 +315,17 @@ module _ (f : Layout) (n l : ℕ) (good : IsLayout f) (d : WordsDiffer f) (words
         top_high = book.top_high;
       }) r.books
 
-  on_path : (u : View) → AllByRecursion (IsOnPath f n words views u) u.path → AllByRecursion (IsOnPath f n words' views' u) u.path
-  on_path u = all_map (IsOnPath f n words views u) (IsOnPath f n words' views' u) u.path (λ x b. record { at = to_linked_at x.frame x.position b.at; near = b.near })
-
   paths_won : PathsPart f n words' views'
-  paths_won = each_set (HasPath f n words views) (HasPath f n words' views') views id v w at
+  paths_won = linking.paths_won good words' id r at prepared w.top w.tables w.known w.path tags_kept
       (let old = r.paths id v at in
       path_more f n words' views' w v.path (record { frame = frame; position = p }) (record { frame = g; position = child }) s.last refl
       (all_map (IsOnPath f n words views v) (IsOnPath f n words' views' w) v.path (λ x b. record { at = to_linked_at x.frame x.position b.at; near = b.near }) old.nodes)
       old.begins old.descends (record { at = g_linked_at; near = inr meets }) (record { number = number; within = s.within; high = high; is = refl }))
-      (λ j u ne here b. record { nodes = on_path u b.nodes; begins = b.begins; descends = b.descends }) r.paths
 
   pub install_won : Lawful f n l words' views'
-  install_won = record {
-    spans = spans_set f views id v w at range_kept r.spans;
-    frames = frames_won;
-    positions = positions_won;
-    root = root_won;
-    parents = parents_won;
-    entries = entries_won;
-    books = books_won;
-    paths = paths_won;
-    purses = purses_same f n words words' views id v w at tags_kept refl refl r.frames r.purses;
-    sizes = sizes_same f n l words words' views id v w at live range_kept (length_kept words (entry_place f n frame number) word) r.sizes;
-    busy = busy_set f n words words' views id v w at (λ h lt b e. b (sym (tags_kept h lt) ∙ e)) (λ all h lt b e. r.busy id v at all h lt b (sym (tags_kept h lt) ∙ e)) r.busy;
-    known = known_set f l words words' views id v w at to_tree
-        (λ q b. ⊎_elim
-        (λ (e : q ≡ child). (subst There' (sym e) tree_child, inr (subst (λ (y : Position). IsTrue (meets_span v y.base (end_of_table f y))) (sym e) meets)))
-        (λ (old : IsAmong v.known q). let c = r.known id v at q old in (to_tree q c.0, c.1))
-        (among_cases q child v.known b)) r.known;
-  }
+  install_won = linking.linked_won good words' id r at prepared w.top w.tables w.known w.path tags_kept live (length_kept words (entry_place f n frame number) word) frames_won (linking.positions_won good words' id r at prepared w.top w.tables w.known w.path tags_kept not_there tree_child to_tree back_tree) root_won parents_won entries_won books_won paths_won
+      (known_set f l words words' views id v w at to_tree
+      (λ q b. ⊎_elim
+      (λ (e : q ≡ child). (subst There' (sym e) tree_child, inr (subst (λ (y : Position). IsTrue (meets_span v y.base (end_of_table f y))) (sym e) meets)))
+      (λ (old : IsAmong v.known q). let c = r.known id v at q old in (to_tree q c.0, c.1))
+      (among_cases q child v.known b)) r.known)

@@ -32,6 +32,7 @@ mod MarkKept
 mod RootKept
 mod LookKept
 mod InstallMet
+mod NewTable
 mod InstallWon
 mod InstallKept
 mod WriteFacts

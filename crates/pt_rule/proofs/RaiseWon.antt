@@ -1,8 +1,7 @@
 -- A raise that was won: the prepared frame is linked over the old top, which its entry 0 names, and is the root.
 use Rattle.std.proofs.Common.{◌≡◌, ◌≢◌, ◌⊎◌, inl, inr, ℕ, true, false, ◌+◌, ◌-◌, ◌*◌, ◌%◌, ◌^◌, ◌<◌, ◌≤◌, List, [], ◌∷◌, set, sym, refl, ap, ◌∙◌, subst, arith, ⊎_elim, ne_eqb}
-use Rattle.std.specs.Prelude.{IsTrue, map, nat_le, nat_lt, ◌&&◌, ◌==◌, slice_index, slice_set, Option, None, Some}
-use Rattle.std.specs.List.{AllByRecursion}
-use Rattle.std.proofs.lemmas.Bool.{and_parts, and_from, eqb-true, or_cases, or_left, or_right, le-leb, leb-true, lt-ltb, ltb-true, false≢true, false_from_ne_true}
+use Rattle.std.specs.Prelude.{IsTrue, map, nat_le, nat_lt, ◌&&◌, ◌==◌, slice_index, slice_set, None, Some}
+use Rattle.std.proofs.lemmas.Bool.{and_parts, and_from, eqb-true, or_cases, or_left, or_right, le-leb, leb-true, lt-ltb, false≢true}
 use Rattle.std.proofs.lemmas.Nat.{pow_pos}
 use Rattle.std.proofs.Math.Nat.{zero-div, zero-mod}
 use mathlib.Core.Option.{some}
@@ -13,29 +12,28 @@ use Rattle.atomic_table.proofs.Lists.{set_here}
 use Rattle.pt_model.specs.declared.position.Position.{Position}
 use Rattle.pt_model.specs.Layout.{Layout, pages_of_entry, pages_of_table}
 use Rattle.pt_model.specs.Tables.{IsPosition, child_at, end_of_table, is_same, is_spine, levels_between, parent_of, spine_position, starting_top}
-use Rattle.pt_model.specs.Words.{entry_of, frame_address, placed_at, placed_word, root_frame, root_level, root_word, tag}
+use Rattle.pt_model.specs.Words.{entry_of, frame_address, placed_word, root_frame, root_level, root_word, tag}
 use Rattle.pt_format.specs.Laws.{IsLayout}
 use Rattle.pt_view.specs.declared.view.View.{View}
 use Rattle.pt_view.specs.declared.view.Prepared.{Prepared}
-use Rattle.pt_model.specs.Sets.{one_if, IsAmong}
-use Rattle.pt_view.specs.Pieces.{table_of}
+use Rattle.pt_model.specs.Sets.{IsAmong}
 use Rattle.pt_view.specs.Views.{SameRange}
 use Rattle.pt_view.specs.Calls.{meets_span}
-use Rattle.pt_rule.specs.Totals.{total, bridge_in, has_bridge, has_piece, has_table, has_word, holds, is_prepared, prepares}
-use Rattle.pt_rule.specs.Tags.{IsTag, is_held, is_placed}
+use Rattle.pt_rule.specs.Totals.{total, bridge_in, has_bridge, has_piece, has_table, has_word}
 use Rattle.pt_rule.specs.Linked.{IsLinked, IsLinkedAt, is_in_tree}
-use Rattle.pt_rule.specs.Lawful.{Lawful, BooksPart, EntriesPart, FramesPart, HasBridge, HasPath, IsBridged, IsOnPath, IsOwnPiece, IsOwnTable, IsPreparedAt, ParentsPart, PathsPart, PositionsPart, RootPart, has_child, slot_of}
+use Rattle.pt_rule.specs.Lawful.{Lawful, BooksPart, EntriesPart, FramesPart, HasBridge, IsBridged, IsOwnPiece, IsOwnTable, ParentsPart, PathsPart, RootPart, has_child, slot_of}
 use Rattle.pt_rule.specs.Kinds.{over_top, with_spine}
 use Rattle.pt_model.proofs.Tops.{table_mono}
 use Rattle.pt_model.proofs.Places.{entry_after_root, length_kept, root_same, tag_after_root}
-use Rattle.pt_rule.proofs.TotalsKept.{at_inside, each_set, total_set, total_same}
-use Rattle.pt_model.proofs.Positions.{among_append, among_levels, bit_false, bit_le, is_same_self, same_cases, same_position}
+use Rattle.pt_rule.proofs.TotalsKept.{at_inside, each_set, total_same}
+use Rattle.pt_model.proofs.Positions.{among_append, among_levels, is_same_self, same_cases, same_position}
 use Rattle.pt_view.proofs.Members.{all_map}
-use Rattle.pt_rule.proofs.PartsKept.{prepared_moved, prepared_within, spans_set, books_set, busy_set, known_set, purses_same, sizes_same}
-use Rattle.pt_rule.proofs.TagFacts.{IsPreparedBy, placed_is, prepared_by, prepared_unlinked}
-use Rattle.pt_rule.proofs.TreeFacts.{level_low, linked_there, no_words_of, one_frame, piece_home, placed_back, prepared_tag}
+use Rattle.pt_rule.proofs.PartsKept.{books_set, known_set}
+use Rattle.pt_rule.proofs.TagFacts.{IsPreparedBy, prepared_by}
+use Rattle.pt_rule.proofs.TreeFacts.{level_low, linked_there, no_words_of, one_frame, piece_home, prepared_tag}
 use Rattle.pt_rule.proofs.FindsKept.{piece_kept, table_kept}
 use Rattle.pt_rule.proofs.RootKept.{spine_is}
+use Rattle.pt_rule.proofs.NewTable as linking
 use Rattle.pt_rule.proofs.BridgeKept.{bridge_here, bridge_low, bridge_none, bridge_total}
 
 -- the parent of a spine position is the next one, at its entry 0
@@ -156,53 +154,20 @@ module _ (f : Layout) (n l : ℕ) (good : IsLayout f) (words : List ℕ) (views 
 
     -- The frames that are linked.
 
-    prepares_after : (h : ℕ) → total (prepares h) views' + prepares h v ≡ total (prepares h) views
-    prepares_after h = let t = total_set (prepares h) views id v w at in omega arith
-
-    prepares_else : (h : ℕ) → h ≢ g → prepares h v ≡ 0
-    prepares_else h ne = ap (λ (o : Option Prepared). one_if (is_prepared h o)) prepared ∙ bit_false (g == h) (ne_eqb g h (λ e. ne (sym e)))
-
-    g_once : total (prepares g) views ≡ 1
-    g_once = let one = by.one in let some_one = by.somewhere in let few = r.frames.prepared g by.within in let bit = bit_le (is_placed (tag words g)) in omega arith
-
-    g_free : total (prepares g) views' ≡ 0
-    g_free = let t = prepares_after g in let one = by.one in omega (arith, t, g_once, one)
-
     g_unlinked : IsLinked n words views g → ⊥
-    g_unlinked = prepared_unlinked n words views g by.somewhere
+    g_unlinked = linking.g_unlinked good words' id r at prepared w.top w.tables w.known w.path tags_kept
 
     to_linked : (h : ℕ) → IsLinked n words views h → IsLinked n words' views' h
-    to_linked h b = record {
-      within = b.within;
-      placed = ap is_placed (tags_kept h b.within) ∙ b.placed;
-      unprepared = let t = prepares_after h in let none = b.unprepared in omega arith;
-    }
-
-    g_linked : IsLinked n words' views' g
-    g_linked = record {
-      within = by.within;
-      placed = ap is_placed (tags_kept g by.within ∙ x_tag.1) ∙ placed_is child;
-      unprepared = g_free;
-    }
-
-    back_linked : (h : ℕ) → h ≢ g → IsLinked n words' views' h → IsLinked n words views h
-    back_linked h ne b = record {
-      within = b.within;
-      placed = sym (ap is_placed (tags_kept h b.within)) ∙ b.placed;
-      unprepared = let t = prepares_after h in let none = b.unprepared in let z = prepares_else h ne in omega arith;
-    }
-
-    to_linked_at : (h : ℕ) (q : Position) → IsLinkedAt n words views h q → IsLinkedAt n words' views' h q
-    to_linked_at h q b = record { is_linked = to_linked h b.is_linked; at = ap placed_at (tags_kept h b.is_linked.within) ∙ b.at }
+    to_linked = linking.to_linked good words' id r at prepared w.top w.tables w.known w.path tags_kept
 
     g_linked_at : IsLinkedAt n words' views' g child
-    g_linked_at = record { is_linked = g_linked; at = ap placed_at (tags_kept g by.within ∙ x_tag.1) ∙ placed_back child child_low }
+    g_linked_at = linking.g_linked_at good words' id r at prepared w.top w.tables w.known w.path tags_kept
 
-    -- a linked frame is the new top, or was linked where it is
+    to_linked_at : (h : ℕ) (q : Position) → IsLinkedAt n words views h q → IsLinkedAt n words' views' h q
+    to_linked_at = linking.to_linked_at good words' id r at prepared w.top w.tables w.known w.path tags_kept
+
     back_linked_at : (h : ℕ) (q : Position) → IsLinkedAt n words' views' h q → ((h ≡ g) × (q ≡ child)) ⊎ IsLinkedAt n words views h q
-    back_linked_at h q b = dite (ℕ_discrete h g)
-        (λ e. inl (e, sym b.at ∙ ap (λ (k : ℕ). placed_at (tag words' k)) e ∙ g_linked_at.at))
-        (λ ne. inr (record { is_linked = back_linked h ne b.is_linked; at = sym (ap placed_at (tags_kept h b.is_linked.within)) ∙ b.at }))
+    back_linked_at = linking.back_linked_at good words' id r at prepared w.top w.tables w.known w.path tags_kept
 
     -- The tree.
 
@@ -239,12 +204,6 @@ module _ (f : Layout) (n l : ℕ) (good : IsLayout f) (words : List ℕ) (views 
 
     -- The parts.
 
-    pieces_kept : (q : Position) (i : ℕ) → total (has_piece f q i) views' ≡ total (has_piece f q i) views
-    pieces_kept q i = total_same (has_piece f q i) views id v w at refl
-
-    words_kept : (q : Position) (i : ℕ) → total (has_word f q i) views' ≡ total (has_word f q i) views
-    words_kept q i = total_same (has_word f q i) views id v w at refl
-
     -- the new top has the old one's pointer at its entry 0, and no other word
     g_entry : (i : ℕ) → i < 2 ^ f.index → entry_of f n words' g i ≡ bridge_in f g i (Some x)
     g_entry i small = entry_kept g i ∙ r.frames.cleared g i by.within g_unlinked small ∙ bridge_total f n words views r.frames id v x at prepared i
@@ -252,51 +211,11 @@ module _ (f : Layout) (n l : ℕ) (good : IsLayout f) (words : List ℕ) (views 
     bridges_kept : (h i : ℕ) → h ≢ g → total (has_bridge f h i) views' ≡ total (has_bridge f h i) views
     bridges_kept h i ne = total_same (has_bridge f h i) views id v w at (sym (ap (bridge_in f h i) prepared ∙ bridge_none f h i (Some x) (ne_eqb g h (λ e. ne (sym e)))))
 
-    bridge_kept : (levels : ℕ) (q : Position) (o : Option ℕ) → HasBridge f n words views levels q o → HasBridge f n words' views' levels q o
-    bridge_kept levels q None b = tt
-    bridge_kept levels q (Some h) b = (b.0, b.1, to_linked_at h (spine_position b.0) b.2, b.3)
-
-    bridged_kept : (levels : ℕ) (o : Option Prepared) → IsBridged f n words views levels o → IsBridged f n words' views' levels o
-    bridged_kept levels None b = tt
-    bridged_kept levels (Some y) b = bridge_kept levels y.position y.bridge b
-
     frames_won : FramesPart f n words' views'
-    frames_won = record {
-      tags = λ h lt. subst (IsTag f) (sym (tags_kept h lt)) (r.frames.tags h lt);
-      held = λ h lt. total_same (holds h) views id v w at refl ∙ r.frames.held h lt ∙ ap (λ (t : ℕ). one_if (is_held t)) (sym (tags_kept h lt));
-      prepared = λ h lt. let t = prepares_after h in let few = r.frames.prepared h lt in
-          let same : one_if (is_placed (tag words' h)) ≡ one_if (is_placed (tag words h)) = ap (λ (t : ℕ). one_if (is_placed t)) (tags_kept h lt) in omega arith;
-      none_held = λ h le. total_same (holds h) views id v w at refl ∙ r.frames.none_held h le;
-      none_prepared = λ h le. let t = prepares_after h in let none = r.frames.none_prepared h le in omega arith;
-      at = each_set (λ u. IsPreparedAt words u.prepared) (λ u. IsPreparedAt words' u.prepared) views id v w at tt
-          (λ j u ne here b. prepared_moved words words' u.prepared (λ y e. tags_kept y.frame (prepared_within f n words views j u y r.frames here e)) b) r.frames.at;
-      bridges = each_set (λ u. IsBridged f n words views u.levels u.prepared) (λ u. IsBridged f n words' views' u.levels u.prepared) views id v w at tt
-          (λ j u ne here b. bridged_kept u.levels u.prepared b) r.frames.bridges;
-      cleared = λ h i lt unlinked small.
-          let ne : h ≢ g = (λ e. unlinked (subst (IsLinked n words' views') (sym e) g_linked)) in
-          entry_kept h i ∙ r.frames.cleared h i lt (λ b. unlinked (to_linked h b)) small ∙ sym (bridges_kept h i ne);
-    }
-
-    positions_won : PositionsPart f n l words' views'
-    positions_won = record {
-      distinct = λ y z b c e.
-          let same : tag words y ≡ tag words z = sym (tags_kept y b.within) ∙ e ∙ tags_kept z c.within in
-          dite (ℕ_discrete y g)
-          (λ is_y. dite (ℕ_discrete z g) (λ is_z. is_y ∙ sym is_z)
-          (λ not_z. absurd (not_there (tree_of z (back_linked z not_z c) (sym same ∙ ap (tag words) is_y ∙ x_tag.1)))))
-          (λ not_y. dite (ℕ_discrete z g) (λ is_z. absurd (not_there (tree_of y (back_linked y not_y b) (same ∙ ap (tag words) is_z ∙ x_tag.1))))
-          (λ not_z. r.positions.distinct y z (back_linked y not_y b) (back_linked z not_z c) same));
-      in_tree = λ h b. dite (ℕ_discrete h g)
-          (λ e. subst There' (sym g_linked_at.at ∙ ap (λ (k : ℕ). placed_at (tag words' k)) (sym e)) tree_child)
-          (λ ne. subst There' (ap placed_at (sym (tags_kept h b.within))) (to_tree (placed_at (tag words h)) (r.positions.in_tree h (back_linked h ne b))));
-      all = λ q t. ⊎_elim
-          (λ (e : q ≡ child). (g, subst (IsLinkedAt n words' views' g) (sym e) g_linked_at))
-          (λ (was : There q). let a : (h : ℕ) × IsLinkedAt n words views h q = r.positions.all q was in (a.0, to_linked_at a.0 q a.1))
-          (back_tree q t);
-    }
-      where
-        tree_of : (h : ℕ) → IsLinked n words views h → tag words h ≡ placed_word child → There child
-        tree_of h b e = subst There (ap placed_at e ∙ placed_back child child_low) (r.positions.in_tree h b)
+    frames_won = linking.frames_won good words' id r at prepared w.top w.tables w.known w.path tags_kept
+        (λ h i lt unlinked small.
+        let ne : h ≢ g = (λ e. unlinked (subst (IsLinked n words' views') (sym e) g_linked_at.is_linked)) in
+        entry_kept h i ∙ r.frames.cleared h i lt (λ b. unlinked (to_linked h b)) small ∙ sym (bridges_kept h i ne))
 
     root_won : RootPart n words' views'
     root_won = record {
@@ -349,8 +268,7 @@ module _ (f : Layout) (n l : ℕ) (good : IsLayout f) (words : List ℕ) (views 
             (back_linked_at y (parent_of f q) c)
 
     no_piece_in : (i : ℕ) → total (has_piece f child i) views ≡ 0
-    no_piece_in i = dite (dec_le (total (has_piece f child i) views) 0) (λ none. omega arith)
-        (λ some_one. absurd (not_there (piece_home f n l words views good r child i (omega arith)).0))
+    no_piece_in = linking.no_piece_in good words' id r at prepared w.top w.tables w.known w.path tags_kept not_there tree_child to_tree back_tree
 
     -- the tree has no more over an entry than before, but for the new top, over which no table is
     no_piece_over : (q : Position) (i : ℕ) → 0 < q.level → child_at f q i ≡ child → total (has_piece f q i) views ≡ 0
@@ -360,32 +278,15 @@ module _ (f : Layout) (n l : ℕ) (good : IsLayout f) (words : List ℕ) (views 
         let e : q.level - 1 ≡ level + 1 = ap (λ (p : Position). p.level) same in let was = was_level in absurd (omega arith))
 
     entries_won : EntriesPart f n l words' views'
-    entries_won = record {
-      words_are = λ h i q b small childless. ⊎_elim
-          (λ (new : (h ≡ g) × (q ≡ child)).
-          let high : 0 < i = dite (ℕ_discrete i 0) (λ z. absurd (false≢true (sym childless ∙ (λ k. has_child f l words' views' (new.1 k) (z k)) ∙ has_old))) (λ ne. omega arith) in
-          (λ k. entry_of f n words' (new.0 k) i) ∙ g_entry i small ∙ bridge_low f g i x (λ z. omega arith)
-          ∙ sym (words_kept q i ∙ ap (λ (y : Position). total (has_word f y i) views) new.1 ∙ no_words_of f child i views (no_piece_in i)))
-          (λ (was : IsLinkedAt n words views h q).
-          entry_kept h i
-          ∙ r.entries.words_are h i q was small
-          (false_from_ne_true (has_child f l words views q i) (λ yes.
-          let b : (nat_lt 0 q.level ≡ true) × There (child_at f q i) = and_parts (nat_lt 0 q.level) _ yes in
-          false≢true (sym childless ∙ and_from (nat_lt 0 q.level) _ b.0 (to_tree (child_at f q i) b.1))))
-          ∙ sym (words_kept q i))
-          (back_linked_at h q b);
-      apart = λ i q yes. pieces_kept q i
-          ∙ (let b : (nat_lt 0 q.level ≡ true) × There' (child_at f q i) = and_parts (nat_lt 0 q.level) _ yes in
-          ⊎_elim (λ (e : child_at f q i ≡ child). no_piece_over q i (ltb-true 0 q.level b.0) e)
-          (λ (was : There (child_at f q i)). r.entries.apart i q (and_from (nat_lt 0 q.level) _ b.0 was)) (back_tree (child_at f q i) b.1));
-      once = λ i q. subst (λ (t : ℕ). t ≤ 1) (sym (pieces_kept q i)) (r.entries.once i q);
-      homes = each_set (λ u. AllByRecursion (λ y. There (table_of f y)) u.pieces) (λ u. AllByRecursion (λ y. There' (table_of f y)) u.pieces) views id v w at
-          (home v (r.entries.homes id v at)) (λ j u ne here b. home u b) r.entries.homes;
-    }
+    entries_won = linking.entries_won good words' id r at prepared w.top w.tables w.known w.path tags_kept not_there tree_child to_tree back_tree no_piece_over
+        (λ h i q b small childless. ⊎_elim
+        (λ (new : (h ≡ g) × (q ≡ child)).
+        let high : 0 < i = dite (ℕ_discrete i 0) (λ z. absurd (false≢true (sym childless ∙ (λ k. has_child f l words' views' (new.1 k) (z k)) ∙ has_old))) (λ ne. omega arith) in
+        (λ k. entry_of f n words' (new.0 k) i) ∙ g_entry i small ∙ bridge_low f g i x (λ z. omega arith)
+        ∙ sym (linking.words_kept good words' id r at prepared w.top w.tables w.known w.path tags_kept q i ∙ ap (λ (y : Position). total (has_word f y i) views) new.1 ∙ no_words_of f child i views (no_piece_in i)))
+        (λ (was : IsLinkedAt n words views h q). linking.words_still good words' id r at prepared w.top w.tables w.known w.path tags_kept h i q to_tree (entry_kept h i) was small childless)
+        (back_linked_at h q b))
       where
-        home : (u : View) → AllByRecursion (λ y. There (table_of f y)) u.pieces → AllByRecursion (λ y. There' (table_of f y)) u.pieces
-        home u = all_map (λ y. There (table_of f y)) (λ y. There' (table_of f y)) u.pieces (λ y t. to_tree (table_of f y) t)
-
         -- the old top is the child at entry 0
         has_old : has_child f l words' views' child 0 ≡ true
         has_old = and_from (nat_lt 0 (level + 1)) _ (lt-ltb 0 (level + 1) (omega arith))
@@ -418,16 +319,11 @@ module _ (f : Layout) (n l : ℕ) (good : IsLayout f) (words : List ℕ) (views 
           top_high = legal;
         }) r.books
 
-    on_path : (u : View) → AllByRecursion (IsOnPath f n words views u) u.path → AllByRecursion (IsOnPath f n words' views' u) u.path
-    on_path u = all_map (IsOnPath f n words views u) (IsOnPath f n words' views' u) u.path (λ y b. record { at = to_linked_at y.frame y.position b.at; near = b.near })
-
     on_spine : IsTrue (is_spine v.levels child)
     on_spine = let start = start_here in spine_is v.levels (level + 1) (omega arith)
 
     paths_won : PathsPart f n words' views'
-    paths_won = each_set (HasPath f n words views) (HasPath f n words' views') views id v w at
-        (record { nodes = (record { at = g_linked_at; near = inl on_spine }, tt); begins = on_spine; descends = tt })
-        (λ j u ne here b. record { nodes = on_path u b.nodes; begins = b.begins; descends = b.descends }) r.paths
+    paths_won = linking.paths_won good words' id r at prepared w.top w.tables w.known w.path tags_kept (record { nodes = (record { at = g_linked_at; near = inl on_spine }, tt); begins = on_spine; descends = tt })
 
     -- the spine up to the new top is of the tree
     spine_known : (p : Position) → IsAmong w.known p → There' p × (IsTrue (is_spine w.levels p) ⊎ IsTrue (meets_span w p.base (end_of_table f p)))
@@ -445,17 +341,5 @@ module _ (f : Layout) (n l : ℕ) (good : IsLayout f) (words : List ℕ) (views 
         (among_append p (map spine_position (levels_between (starting_top v.levels) (level + 1))) v.known a)
 
     pub raise_won : Lawful f n l words' views'
-    raise_won = record {
-      spans = spans_set f views id v w at range_kept r.spans;
-      frames = frames_won;
-      positions = positions_won;
-      root = root_won;
-      parents = parents_won;
-      entries = entries_won;
-      books = books_won;
-      paths = paths_won;
-      purses = purses_same f n words words' views id v w at tags_kept refl refl r.frames r.purses;
-      sizes = sizes_same f n l words words' views id v w at live range_kept (length_kept words 0 word) r.sizes;
-      busy = busy_set f n words words' views id v w at (λ h lt b e. b (sym (tags_kept h lt) ∙ e)) (λ all h lt b e. r.busy id v at all h lt b (sym (tags_kept h lt) ∙ e)) r.busy;
-      known = known_set f l words words' views id v w at to_tree spine_known r.known;
-    }
+    raise_won = linking.linked_won good words' id r at prepared w.top w.tables w.known w.path tags_kept live (length_kept words 0 word) frames_won (linking.positions_won good words' id r at prepared w.top w.tables w.known w.path tags_kept not_there tree_child to_tree back_tree) root_won parents_won entries_won books_won paths_won
+        (known_set f l words words' views id v w at to_tree spine_known r.known)
