@@ -1,5 +1,5 @@
 -- An install that was won: the prepared frame is linked at the child of a zero entry, which is then its pointer.
-use Rattle.std.proofs.Common.{◌≡◌, ◌≢◌, ◌⊎◌, inl, inr, ℕ, Bool, true, false, ◌+◌, ◌-◌, ◌*◌, ◌/◌, ◌%◌, ◌^◌, ◌<◌, ◌≤◌, List, set, sym, refl, ap, ◌∙◌, subst, arith, ⊎_elim, eq-eqb}
+use Rattle.std.proofs.Common.{◌≡◌, ◌≢◌, ◌⊎◌, inl, inr, ℕ, Bool, true, false, ◌+◌, ◌-◌, ◌/◌, ◌%◌, ◌^◌, ◌<◌, ◌≤◌, List, set, sym, refl, ap, ◌∙◌, subst, arith, ⊎_elim}
 use Rattle.std.specs.Prelude.{IsTrue, nat_le, nat_lt, ◌&&◌, ◌||◌, ◌==◌, if◌then◌else◌, slice_index, slice_set, Option, None, Some}
 use Rattle.std.proofs.lemmas.Bool.{and_from, or_left, or_right, le-leb, lt-ltb, false≢true, false_from_ne_true}
 use mathlib.Core.Option.{some, some-injective}
@@ -26,13 +26,14 @@ use Rattle.pt_model.proofs.Places.{entry_else, entry_same, length_kept, root_aft
 use Rattle.pt_rule.proofs.TotalsKept.{at_inside, each_set, total_at, total_only, total_same, total_two}
 use Rattle.pt_model.proofs.Positions.{among_cases, bit_le, bit_true, is_same_self, same_cases}
 use Rattle.pt_view.proofs.Members.{all_map}
-use Rattle.pt_rule.proofs.PartsKept.{prepared_within, prepares_here, books_set, known_set}
+use Rattle.pt_rule.proofs.PartsKept.{InTree, prepared_within, prepares_here, books_set, known_set}
 use Rattle.pt_rule.proofs.PositionFacts.{child_of_parent, parent_of_child, slot_below, slot_of_child}
 use Rattle.pt_rule.proofs.PieceFacts.{word_some}
 use Rattle.pt_rule.proofs.TreeFacts.{an_empty, a_piece, a_child, entry_is, is_position, linked_there, level_low, no_words_of, one_frame, piece_home, prepared_tag, table_there, there_position}
 use Rattle.pt_rule.proofs.TablesAdded.{with_all, with_cases, with_kept, with_new, with_order}
 use Rattle.pt_rule.proofs.FindsKept.{piece_kept, table_kept, tree_found}
 use Rattle.pt_rule.proofs.NewTable as linking
+use Rattle.pt_rule.proofs.NewTable.{LinksNew}
 use Rattle.pt_rule.proofs.LookKept.{StandsAt, child_meets, entered, path_more, pointer_facts}
 
 -- a frame that a view doesn't prepare has no bridge of it
@@ -46,9 +47,6 @@ no_bridge f h i g p = either ((g == h) && (i == 0))
     either : (b : Bool) → (let z : ℕ = if b then 0 else 0 in z) ≡ 0
     either true = refl
     either false = refl
-
-placed_is_placed : (p : Position) → is_placed (placed_word p) ≡ true
-placed_is_placed p = let e : (2 + 4 * p.level + 32 * p.base) % 4 ≡ 2 = omega arith in eq-eqb (placed_word p % 4) 2 e
 
 -- What is known where an entry of a view's path is zero and the view prepares a frame for the child there.
 module _ (f : Layout) (n l : ℕ) (good : IsLayout f) (d : WordsDiffer f) (words : List ℕ) (views : List View) (id : ℕ) (v : View) (r : Lawful f n l words views)
@@ -69,12 +67,6 @@ module _ (f : Layout) (n l : ℕ) (good : IsLayout f) (d : WordsDiffer f) (words
   abbrev views' : List View
   views' = set views id w
 
-  abbrev There : Position → Type 0
-  There q = IsTrue (is_in_tree l words views q)
-
-  abbrev There' : Position → Type 0
-  There' q = IsTrue (is_in_tree l words' views' q)
-
   frame_in : frame < n
   frame_in = s.linked.is_linked.within
 
@@ -85,9 +77,6 @@ module _ (f : Layout) (n l : ℕ) (good : IsLayout f) (d : WordsDiffer f) (words
 
   g_in : g < n
   g_in = prepared_within f n words views id v (record { frame = g; position = child; bridge = None }) r.frames at prepared
-
-  g_tag : tag words g ≡ placed_word child
-  g_tag = (prepared_tag f good n words views r.frames id v (record { frame = g; position = child; bridge = None }) at prepared).1
 
   g_once : total (prepares g) views ≡ 1
   g_once =
@@ -106,7 +95,7 @@ module _ (f : Layout) (n l : ℕ) (good : IsLayout f) (d : WordsDiffer f) (words
         absurd (d.pointer_some p.level (frame_address f h) facts.0 facts.1 (sym is ∙ empty))
   ]
 
-  not_there : There child → ⊥
+  not_there : InTree l words views child → ⊥
   not_there t = false≢true (sym nothing_there.1 ∙ and_from (nat_lt 0 p.level) _ (lt-ltb 0 p.level high) t)
 
   levels_are : v.levels ≡ l
@@ -117,9 +106,6 @@ module _ (f : Layout) (n l : ℕ) (good : IsLayout f) (d : WordsDiffer f) (words
       (or_left (is_spine l child && nat_le child.level (root_level words)) _
       (and_from (is_spine l child) _ (subst (λ (k : ℕ). is_spine k child ≡ true) levels_are e)
       (le-leb child.level (root_level words) (let low = level_low f n l words views good r p (linked_there f n l words views good r frame p s.linked) in omega arith)))))
-
-  child_low : child.level < 8
-  child_low = let a = place.a_level in let b = good.levels_high in omega arith
 
   -- The words after.
 
@@ -140,20 +126,8 @@ module _ (f : Layout) (n l : ℕ) (good : IsLayout f) (d : WordsDiffer f) (words
 
   -- The frames that are linked.
 
-  g_unlinked : IsLinked n words views g → ⊥
-  g_unlinked = linking.g_unlinked good words' id r at prepared w.top w.tables w.known w.path tags_kept
-
-  to_linked : (h : ℕ) → IsLinked n words views h → IsLinked n words' views' h
-  to_linked = linking.to_linked good words' id r at prepared w.top w.tables w.known w.path tags_kept
-
-  g_linked_at : IsLinkedAt n words' views' g child
-  g_linked_at = linking.g_linked_at good words' id r at prepared w.top w.tables w.known w.path tags_kept
-
-  to_linked_at : (h : ℕ) (q : Position) → IsLinkedAt n words views h q → IsLinkedAt n words' views' h q
-  to_linked_at = linking.to_linked_at good words' id r at prepared w.top w.tables w.known w.path tags_kept
-
-  back_linked_at : (h : ℕ) (q : Position) → IsLinkedAt n words' views' h q → ((h ≡ g) × (q ≡ child)) ⊎ IsLinkedAt n words views h q
-  back_linked_at = linking.back_linked_at good words' id r at prepared w.top w.tables w.known w.path tags_kept
+  link : LinksNew n words words' views views' g child
+  link = linking.links good words' id r at prepared w.top w.tables w.known w.path tags_kept
 
   -- The tree.
 
@@ -164,7 +138,7 @@ module _ (f : Layout) (n l : ℕ) (good : IsLayout f) (d : WordsDiffer f) (words
   tree_else q ne = tree_root q ∙ tree_found l words views id v w at q (λ b. with_kept v.levels v.tables child q b)
       (λ b. ⊎_elim (λ (old : IsAmong v.tables q). table_there f n l words views good r id v at q old) (λ (e : q ≡ child). absurd (ne e)) (with_cases v.levels v.tables child q b))
 
-  tree_child : There' child
+  tree_child : InTree l words' views' child
   tree_child = or_right (is_spine l child && nat_le child.level (root_level words')) _
       (let mine : 0 < places child w.tables = with_new v.levels v.tables child won_off in
       let most = total_at (has_table child) views' id w (set_here views id w (at_inside views id v at)) in lt-ltb 0 (total (has_table child) views') (omega arith))
@@ -172,10 +146,10 @@ module _ (f : Layout) (n l : ℕ) (good : IsLayout f) (d : WordsDiffer f) (words
   cases_child : (q : Position) → (q ≡ child) ⊎ (q ≡ child → ⊥)
   cases_child q = ⊎_elim (λ (e : q ≡ child). inl e) (λ (ne : is_same q child ≡ false). inr (λ e. false≢true (sym ne ∙ ap (is_same q) (sym e) ∙ is_same_self q q refl))) (same_cases q child)
 
-  to_tree : (q : Position) → There q → There' q
-  to_tree q t = ⊎_elim (λ (e : q ≡ child). subst There' (sym e) tree_child) (λ (ne : q ≡ child → ⊥). tree_else q ne ∙ t) (cases_child q)
+  to_tree : (q : Position) → InTree l words views q → InTree l words' views' q
+  to_tree q t = ⊎_elim (λ (e : q ≡ child). subst (InTree l words' views') (sym e) tree_child) (λ (ne : q ≡ child → ⊥). tree_else q ne ∙ t) (cases_child q)
 
-  back_tree : (q : Position) → There' q → (q ≡ child) ⊎ There q
+  back_tree : (q : Position) → InTree l words' views' q → (q ≡ child) ⊎ InTree l words views q
   back_tree q t = ⊎_elim (λ (e : q ≡ child). inl e) (λ (ne : q ≡ child → ⊥). inr (sym (tree_else q ne) ∙ t)) (cases_child q)
 
   -- The parts.
@@ -186,25 +160,25 @@ module _ (f : Layout) (n l : ℕ) (good : IsLayout f) (d : WordsDiffer f) (words
 
   g_cleared : (i : ℕ) → i < 2 ^ f.index → entry_of f n words g i ≡ 0
   g_cleared i small =
-      r.frames.cleared g i g_in g_unlinked small
+      r.frames.cleared g i g_in link.unlinked small
       ∙ total_only (has_bridge f g i) views id v at
       (λ j u ne e. bridge_none f g i u.prepared
       (false_from_ne_true (is_prepared g u.prepared) (λ yes. let one = bit_true _ yes in let two = total_two (prepares g) views j id u v ne e at in omega (arith, one, two, g_once, g_mine))))
       ∙ ap (bridge_in f g i) prepared ∙ no_bridge f g i g child
 
   g_other : g ≢ frame
-  g_other e = g_unlinked (subst (IsLinked n words views) (sym e) s.linked.is_linked)
+  g_other e = link.unlinked (subst (IsLinked n words views) (sym e) s.linked.is_linked)
 
   frames_won : FramesPart f n words' views'
   frames_won = linking.frames_won good words' id r at prepared w.top w.tables w.known w.path tags_kept
       (λ h i lt unlinked small.
-      entry_kept h i small (λ e _. unlinked (subst (IsLinked n words' views') (sym e) (to_linked frame s.linked.is_linked)))
-      ∙ r.frames.cleared h i lt (λ b. unlinked (to_linked h b)) small ∙ sym (bridges_kept h i))
+      entry_kept h i small (λ e _. unlinked (subst (IsLinked n words' views') (sym e) (link.to frame s.linked.is_linked)))
+      ∙ r.frames.cleared h i lt (λ b. unlinked (link.to h b)) small ∙ sym (bridges_kept h i))
 
   root_won : RootPart n words' views'
   root_won = record {
     is_linked = subst (λ (k : ℕ). IsLinkedAt n words' views' (k / 8) (spine_position (k % 8))) (sym root_kept)
-        (to_linked_at (root_frame words) (spine_position (root_level words)) r.root.is_linked);
+        (link.to_at (root_frame words) (spine_position (root_level words)) r.root.is_linked);
     greatest = each_set (λ u. u.top ≤ root_level words) (λ u. u.top ≤ root_level words') views id v w at
         (let a = r.root.greatest id v at in omega (arith, a, level_kept)) (λ j u ne here b. omega (arith, b, level_kept)) r.root.greatest;
     reached = reached_still r.root.reached;
@@ -223,13 +197,13 @@ module _ (f : Layout) (n l : ℕ) (good : IsLayout f) (d : WordsDiffer f) (words
   parents_won : ParentsPart f n l words' views'
   parents_won = record {
     closed = λ q t ne. ⊎_elim
-        (λ (e : q ≡ child). to_tree (parent_of f q) (subst There (sym under_place ∙ ap (parent_of f) (sym e)) (linked_there f n l words views good r frame p s.linked)))
-        (λ (old : There q). to_tree (parent_of f q) (r.parents.closed q old (still q ne)))
+        (λ (e : q ≡ child). to_tree (parent_of f q) (subst (InTree l words views) (sym under_place ∙ ap (parent_of f) (sym e)) (linked_there f n l words views good r frame p s.linked)))
+        (λ (old : InTree l words views q). to_tree (parent_of f q) (r.parents.closed q old (still q ne)))
         (back_tree q t);
     named = λ x h q b ne c. ⊎_elim
         (λ (new : (h ≡ g) × (q ≡ child)). new_named x h q new.0 new.1 c)
         (λ (old : IsLinkedAt n words views h q). old_named x h q old (still q ne) c)
-        (back_linked_at h q b);
+        (link.back_at h q b);
   }
     where
       still : (q : Position) → q ≢ spine_position (root_level words') → q ≢ spine_position (root_level words)
@@ -241,7 +215,7 @@ module _ (f : Layout) (n l : ℕ) (good : IsLayout f) (d : WordsDiffer f) (words
           let here : IsLinkedAt n words' views' x p = subst (IsLinkedAt n words' views' x) (ap (parent_of f) is_child ∙ under_place) c in
           let is_frame : x ≡ frame = ⊎_elim
           (λ (new : (x ≡ g) × (p ≡ child)). absurd (let e : p.level ≡ p.level - 1 = ap (λ (y : Position). y.level) new.1 in omega arith))
-          (λ (old : IsLinkedAt n words views x p). one_frame f n l words views good r x frame p old s.linked) (back_linked_at x p here) in
+          (λ (old : IsLinkedAt n words views x p). one_frame f n l words views good r x frame p old s.linked) (link.back_at x p here) in
           let low : q.level ≡ p.level - 1 = ap (λ (y : Position). y.level) is_child in
           let level : p.level ≡ q.level + 1 = omega arith in
           (λ k. entry_of f n words' (is_frame k) (slot_of f (is_child k))) ∙ ap (entry_of f n words' frame) (slot_of_child f p number high s.within place.aligned)
@@ -252,23 +226,23 @@ module _ (f : Layout) (n l : ℕ) (good : IsLayout f) (d : WordsDiffer f) (words
           entry_of f n words' x (slot_of f q) ≡ f.pointer (q.level + 1) (frame_address f h)
       old_named x h q b ne c =
           let there = linked_there f n l words views good r h q b in
-          let up : There (parent_of f q) = r.parents.closed q there ne in
+          let up : InTree l words views (parent_of f q) = r.parents.closed q there ne in
           let aligned = (there_position f n l words views good r q there).aligned in
           ⊎_elim
-          (λ (new : (x ≡ g) × (parent_of f q ≡ child)). absurd (not_there (subst There new.1 up)))
+          (λ (new : (x ≡ g) × (parent_of f q ≡ child)). absurd (not_there (subst (InTree l words views) new.1 up)))
           (λ (old : IsLinkedAt n words views x (parent_of f q)).
           entry_kept x (slot_of f q) (slot_below f q aligned)
           (λ is_frame is_number.
           let is_p : parent_of f q ≡ p = sym old.at ∙ ap (λ (k : ℕ). placed_at (tag words k)) is_frame ∙ s.linked.at in
-          not_there (subst There (sym (child_of_parent f q aligned) ∙ (λ k. child_at f (is_p k) (is_number k))) there))
+          not_there (subst (InTree l words views) (sym (child_of_parent f q aligned) ∙ (λ k. child_at f (is_p k) (is_number k))) there))
           ∙ r.parents.named x h q b ne old)
-          (back_linked_at x (parent_of f q) c)
+          (link.back_at x (parent_of f q) c)
 
   -- no piece stands at an entry over the new table, nor in it
   no_piece_over : (q : Position) (i : ℕ) → 0 < q.level → child_at f q i ≡ child → total (has_piece f q i) views ≡ 0
   no_piece_over q i above same = dite (dec_le (total (has_piece f q i) views) 0) (λ none. omega arith)
       (λ some_one.
-      let home : There q × (i < 2 ^ f.index) = piece_home f n l words views good r q i (omega arith) in
+      let home : InTree l words views q × (i < 2 ^ f.index) = piece_home f n l words views good r q i (omega arith) in
       let aligned = (there_position f n l words views good r q home.0).aligned in
       let is_p : q ≡ p = sym (parent_of_child f q i above home.1 aligned) ∙ ap (parent_of f) same ∙ under_place in
       let is_number : i ≡ number = sym (slot_of_child f q i above home.1 aligned) ∙ ap (slot_of f) same ∙ slot_of_child f p number high s.within place.aligned in
@@ -290,7 +264,7 @@ module _ (f : Layout) (n l : ℕ) (good : IsLayout f) (d : WordsDiffer f) (words
       let is_p : q ≡ p = sym old.at ∙ ap (λ (k : ℕ). placed_at (tag words k)) is_frame ∙ s.linked.at in
       let yes : has_child f l words' views' p number ≡ true = and_from (nat_lt 0 p.level) _ (lt-ltb 0 p.level high) tree_child in
       false≢true (sym childless ∙ (λ k. has_child f l words' views' (is_p k) (is_number k)) ∙ yes))) old small childless)
-      (back_linked_at h q b))
+      (link.back_at h q b))
 
   range_kept : SameRange v w
   range_kept = record { frames = refl; levels = refl; first = refl; count = refl }
@@ -319,13 +293,13 @@ module _ (f : Layout) (n l : ℕ) (good : IsLayout f) (d : WordsDiffer f) (words
   paths_won = linking.paths_won good words' id r at prepared w.top w.tables w.known w.path tags_kept
       (let old = r.paths id v at in
       path_more f n words' views' w v.path (record { frame = frame; position = p }) (record { frame = g; position = child }) s.last refl
-      (all_map (IsOnPath f n words views v) (IsOnPath f n words' views' w) v.path (λ x b. record { at = to_linked_at x.frame x.position b.at; near = b.near }) old.nodes)
-      old.begins old.descends (record { at = g_linked_at; near = inr meets }) (record { number = number; within = s.within; high = high; is = refl }))
+      (all_map (IsOnPath f n words views v) (IsOnPath f n words' views' w) v.path (λ x b. record { at = link.to_at x.frame x.position b.at; near = b.near }) old.nodes)
+      old.begins old.descends (record { at = link.here; near = inr meets }) (record { number = number; within = s.within; high = high; is = refl }))
 
   pub install_won : Lawful f n l words' views'
   install_won = linking.linked_won good words' id r at prepared w.top w.tables w.known w.path tags_kept live (length_kept words (entry_place f n frame number) word) frames_won (linking.positions_won good words' id r at prepared w.top w.tables w.known w.path tags_kept not_there tree_child to_tree back_tree) root_won parents_won entries_won books_won paths_won
       (known_set f l words words' views id v w at to_tree
       (λ q b. ⊎_elim
-      (λ (e : q ≡ child). (subst There' (sym e) tree_child, inr (subst (λ (y : Position). IsTrue (meets_span v y.base (end_of_table f y))) (sym e) meets)))
+      (λ (e : q ≡ child). (subst (InTree l words' views') (sym e) tree_child, inr (subst (λ (y : Position). IsTrue (meets_span v y.base (end_of_table f y))) (sym e) meets)))
       (λ (old : IsAmong v.known q). let c = r.known id v at q old in (to_tree q c.0, c.1))
       (among_cases q child v.known b)) r.known)

@@ -1,6 +1,6 @@
 -- A step that links the frame which a view prepares: the tags stay as they are, and the tree has one position more.
 use Rattle.std.proofs.Common.{◌≡◌, ◌≢◌, ◌⊎◌, inl, inr, ℕ, true, false, ◌+◌, ◌^◌, ◌<◌, ◌≤◌, List, length, set, sym, refl, ap, ◌∙◌, subst, arith, ⊎_elim, ne_eqb}
-use Rattle.std.specs.Prelude.{IsTrue, nat_lt, ◌==◌, Option, None, Some}
+use Rattle.std.specs.Prelude.{nat_lt, ◌==◌, Option, None, Some}
 use Rattle.std.specs.List.{AllByRecursion}
 use Rattle.std.proofs.lemmas.Bool.{and_parts, and_from, ltb-true, false≢true, false_from_ne_true}
 use mathlib.Core.Option.{some}
@@ -20,14 +20,22 @@ use Rattle.pt_view.specs.Pieces.{table_of}
 use Rattle.pt_view.specs.Views.{SameRange}
 use Rattle.pt_rule.specs.Totals.{total, has_bridge, has_piece, has_word, holds, is_prepared, prepares}
 use Rattle.pt_rule.specs.Tags.{IsTag, is_held, is_placed}
-use Rattle.pt_rule.specs.Linked.{IsLinked, IsLinkedAt, is_in_tree}
+use Rattle.pt_rule.specs.Linked.{IsLinked, IsLinkedAt}
 use Rattle.pt_rule.specs.Lawful.{KnownPart, Lawful, BooksPart, EntriesPart, FramesPart, HasBridge, HasPath, IsBridged, IsOnPath, IsPreparedAt, ParentsPart, PathsPart, PositionsPart, RootPart, has_child}
 use Rattle.pt_rule.proofs.TotalsKept.{each_set, total_set, total_same}
 use Rattle.pt_model.proofs.Positions.{bit_false, bit_le}
 use Rattle.pt_view.proofs.Members.{all_map}
-use Rattle.pt_rule.proofs.PartsKept.{prepared_moved, prepared_within, spans_set, busy_set, purses_same, sizes_same}
+use Rattle.pt_rule.proofs.PartsKept.{InTree, prepared_moved, prepared_within, spans_set, busy_set, purses_same, sizes_same}
 use Rattle.pt_rule.proofs.TagFacts.{IsPreparedBy, placed_is, prepared_by, prepared_unlinked}
 use Rattle.pt_rule.proofs.TreeFacts.{piece_home, placed_back, prepared_tag}
+
+-- the frames that were linked are linked where they were, and so is frame g at a child, which wasn't, and no other
+pub record LinksNew (n : ℕ) (words words' : List ℕ) (views views' : List View) (g : ℕ) (child : Position) : Type 0 where
+  pub unlinked : IsLinked n words views g → ⊥
+  pub to : (h : ℕ) → IsLinked n words views h → IsLinked n words' views' h
+  pub to_at : (h : ℕ) (q : Position) → IsLinkedAt n words views h q → IsLinkedAt n words' views' h q
+  pub here : IsLinkedAt n words' views' g child
+  pub back_at : (h : ℕ) (q : Position) → IsLinkedAt n words' views' h q → ((h ≡ g) × (q ≡ child)) ⊎ IsLinkedAt n words views h q
 
 module _ {f : Layout} {n l : ℕ} (good : IsLayout f) {words : List ℕ} (words' : List ℕ) {views : List View} (id : ℕ) {v : View} (r : Lawful f n l words views)
     (at : get_elem? views id ≡ some v) {g : ℕ} {child : Position} {bridge : Option ℕ} (prepared : v.prepared ≡ Some (record { frame = g; position = child; bridge = bridge }))
@@ -38,12 +46,6 @@ module _ {f : Layout} {n l : ℕ} (good : IsLayout f) {words : List ℕ} (words'
   abbrev views' : List View
   views' = set views id w
 
-  abbrev There : Position → Type 0
-  There q = IsTrue (is_in_tree l words views q)
-
-  abbrev There' : Position → Type 0
-  There' q = IsTrue (is_in_tree l words' views' q)
-
   abbrev x : Prepared
   x = record { frame = g; position = child; bridge = bridge }
 
@@ -51,7 +53,7 @@ module _ {f : Layout} {n l : ℕ} (good : IsLayout f) {words : List ℕ} (words'
   by = prepared_by f n words views r.frames id v x at prepared
 
   -- the tag of the frame names a position
-  pub x_tag : IsPosition f child × (tag words g ≡ placed_word child)
+  x_tag : IsPosition f child × (tag words g ≡ placed_word child)
   x_tag = prepared_tag f good n words views r.frames id v x at prepared
 
   child_low : child.level < 8
@@ -59,7 +61,7 @@ module _ {f : Layout} {n l : ℕ} (good : IsLayout f) {words : List ℕ} (words'
 
   -- The frames that are linked.
 
-  pub prepares_after : (h : ℕ) → total (prepares h) views' + prepares h v ≡ total (prepares h) views
+  prepares_after : (h : ℕ) → total (prepares h) views' + prepares h v ≡ total (prepares h) views
   prepares_after h = let t = total_set (prepares h) views id v w at in omega arith
 
   prepares_else : (h : ℕ) → h ≢ g → prepares h v ≡ 0
@@ -71,43 +73,46 @@ module _ {f : Layout} {n l : ℕ} (good : IsLayout f) {words : List ℕ} (words'
   g_free : total (prepares g) views' ≡ 0
   g_free = let t = prepares_after g in let one = by.one in omega (arith, t, g_once, one)
 
-  pub g_unlinked : IsLinked n words views g → ⊥
+  g_unlinked : IsLinked n words views g → ⊥
   g_unlinked = prepared_unlinked n words views g by.somewhere
 
-  pub to_linked : (h : ℕ) → IsLinked n words views h → IsLinked n words' views' h
+  to_linked : (h : ℕ) → IsLinked n words views h → IsLinked n words' views' h
   to_linked h b = record {
     within = b.within;
     placed = ap is_placed (tags_kept h b.within) ∙ b.placed;
     unprepared = let t = prepares_after h in let none = b.unprepared in omega arith;
   }
 
-  pub g_linked : IsLinked n words' views' g
+  g_linked : IsLinked n words' views' g
   g_linked = record {
     within = by.within;
     placed = ap is_placed (tags_kept g by.within ∙ x_tag.1) ∙ placed_is child;
     unprepared = g_free;
   }
 
-  pub back_linked : (h : ℕ) → h ≢ g → IsLinked n words' views' h → IsLinked n words views h
+  back_linked : (h : ℕ) → h ≢ g → IsLinked n words' views' h → IsLinked n words views h
   back_linked h ne b = record {
     within = b.within;
     placed = sym (ap is_placed (tags_kept h b.within)) ∙ b.placed;
     unprepared = let t = prepares_after h in let none = b.unprepared in let z = prepares_else h ne in omega arith;
   }
 
-  pub to_linked_at : (h : ℕ) (q : Position) → IsLinkedAt n words views h q → IsLinkedAt n words' views' h q
+  to_linked_at : (h : ℕ) (q : Position) → IsLinkedAt n words views h q → IsLinkedAt n words' views' h q
   to_linked_at h q b = record { is_linked = to_linked h b.is_linked; at = ap placed_at (tags_kept h b.is_linked.within) ∙ b.at }
 
-  pub g_linked_at : IsLinkedAt n words' views' g child
+  g_linked_at : IsLinkedAt n words' views' g child
   g_linked_at = record { is_linked = g_linked; at = ap placed_at (tags_kept g by.within ∙ x_tag.1) ∙ placed_back child child_low }
 
   -- a linked frame is the new one at the child, or was linked where it is
-  pub back_linked_at : (h : ℕ) (q : Position) → IsLinkedAt n words' views' h q → ((h ≡ g) × (q ≡ child)) ⊎ IsLinkedAt n words views h q
+  back_linked_at : (h : ℕ) (q : Position) → IsLinkedAt n words' views' h q → ((h ≡ g) × (q ≡ child)) ⊎ IsLinkedAt n words views h q
   back_linked_at h q b = dite (ℕ_discrete h g)
       (λ e. inl (e, sym b.at ∙ ap (λ (k : ℕ). placed_at (tag words' k)) e ∙ g_linked_at.at))
       (λ ne. inr (record { is_linked = back_linked h ne b.is_linked; at = sym (ap placed_at (tags_kept h b.is_linked.within)) ∙ b.at }))
 
-  pub pieces_kept : (q : Position) (i : ℕ) → total (has_piece f q i) views' ≡ total (has_piece f q i) views
+  pub links : LinksNew n words words' views views' g child
+  links = record { unlinked = g_unlinked; to = to_linked; to_at = to_linked_at; here = g_linked_at; back_at = back_linked_at }
+
+  pieces_kept : (q : Position) (i : ℕ) → total (has_piece f q i) views' ≡ total (has_piece f q i) views
   pieces_kept q i = total_same (has_piece f q i) views id v w at refl
 
   pub words_kept : (q : Position) (i : ℕ) → total (has_word f q i) views' ≡ total (has_word f q i) views
@@ -137,7 +142,7 @@ module _ {f : Layout} {n l : ℕ} (good : IsLayout f) {words : List ℕ} (words'
   }
 
   -- Where the position wasn't of the tree, and the tree has it and no other more than before.
-  module _ (not_there : There child → ⊥) (tree_child : There' child) (to_tree : (q : Position) → There q → There' q) (back_tree : (q : Position) → There' q → (q ≡ child) ⊎ There q) where
+  module _ (not_there : InTree l words views child → ⊥) (tree_child : InTree l words' views' child) (to_tree : (q : Position) → InTree l words views q → InTree l words' views' q) (back_tree : (q : Position) → InTree l words' views' q → (q ≡ child) ⊎ InTree l words views q) where
     pub positions_won : PositionsPart f n l words' views'
     positions_won = record {
       distinct = λ y z b c e.
@@ -148,16 +153,16 @@ module _ {f : Layout} {n l : ℕ} (good : IsLayout f) {words : List ℕ} (words'
           (λ not_y. dite (ℕ_discrete z g) (λ is_z. absurd (not_there (tree_of y (back_linked y not_y b) (same ∙ ap (tag words) is_z ∙ x_tag.1))))
           (λ not_z. r.positions.distinct y z (back_linked y not_y b) (back_linked z not_z c) same));
       in_tree = λ h b. dite (ℕ_discrete h g)
-          (λ e. subst There' (sym g_linked_at.at ∙ ap (λ (k : ℕ). placed_at (tag words' k)) (sym e)) tree_child)
-          (λ ne. subst There' (ap placed_at (sym (tags_kept h b.within))) (to_tree (placed_at (tag words h)) (r.positions.in_tree h (back_linked h ne b))));
+          (λ e. subst (InTree l words' views') (sym g_linked_at.at ∙ ap (λ (k : ℕ). placed_at (tag words' k)) (sym e)) tree_child)
+          (λ ne. subst (InTree l words' views') (ap placed_at (sym (tags_kept h b.within))) (to_tree (placed_at (tag words h)) (r.positions.in_tree h (back_linked h ne b))));
       all = λ q t. ⊎_elim
           (λ (e : q ≡ child). (g, subst (IsLinkedAt n words' views' g) (sym e) g_linked_at))
-          (λ (was : There q). let a : (h : ℕ) × IsLinkedAt n words views h q = r.positions.all q was in (a.0, to_linked_at a.0 q a.1))
+          (λ (was : InTree l words views q). let a : (h : ℕ) × IsLinkedAt n words views h q = r.positions.all q was in (a.0, to_linked_at a.0 q a.1))
           (back_tree q t);
     }
       where
-        tree_of : (h : ℕ) → IsLinked n words views h → tag words h ≡ placed_word child → There child
-        tree_of h b e = subst There (ap placed_at e ∙ placed_back child child_low) (r.positions.in_tree h b)
+        tree_of : (h : ℕ) → IsLinked n words views h → tag words h ≡ placed_word child → InTree l words views child
+        tree_of h b e = subst (InTree l words views) (ap placed_at e ∙ placed_back child child_low) (r.positions.in_tree h b)
 
     pub no_piece_in : (i : ℕ) → total (has_piece f child i) views ≡ 0
     no_piece_in i = dite (dec_le (total (has_piece f child i) views) 0) (λ none. omega arith)
@@ -170,16 +175,16 @@ module _ {f : Layout} {n l : ℕ} (good : IsLayout f) {words : List ℕ} (words'
     entries_won no_piece_over words_are = record {
       words_are = words_are;
       apart = λ i q yes. pieces_kept q i
-          ∙ (let b : (nat_lt 0 q.level ≡ true) × There' (child_at f q i) = and_parts (nat_lt 0 q.level) _ yes in
+          ∙ (let b : (nat_lt 0 q.level ≡ true) × InTree l words' views' (child_at f q i) = and_parts (nat_lt 0 q.level) _ yes in
           ⊎_elim (λ (e : child_at f q i ≡ child). no_piece_over q i (ltb-true 0 q.level b.0) e)
-          (λ (was : There (child_at f q i)). r.entries.apart i q (and_from (nat_lt 0 q.level) _ b.0 was)) (back_tree (child_at f q i) b.1));
+          (λ (was : InTree l words views (child_at f q i)). r.entries.apart i q (and_from (nat_lt 0 q.level) _ b.0 was)) (back_tree (child_at f q i) b.1));
       once = λ i q. subst (λ (t : ℕ). t ≤ 1) (sym (pieces_kept q i)) (r.entries.once i q);
-      homes = each_set (λ u. AllByRecursion (λ y. There (table_of f y)) u.pieces) (λ u. AllByRecursion (λ y. There' (table_of f y)) u.pieces) views id v w at
+      homes = each_set (λ u. AllByRecursion (λ y. InTree l words views (table_of f y)) u.pieces) (λ u. AllByRecursion (λ y. InTree l words' views' (table_of f y)) u.pieces) views id v w at
           (home v (r.entries.homes id v at)) (λ j u ne here b. home u b) r.entries.homes;
     }
       where
-        home : (u : View) → AllByRecursion (λ y. There (table_of f y)) u.pieces → AllByRecursion (λ y. There' (table_of f y)) u.pieces
-        home u = all_map (λ y. There (table_of f y)) (λ y. There' (table_of f y)) u.pieces (λ y t. to_tree (table_of f y) t)
+        home : (u : View) → AllByRecursion (λ y. InTree l words views (table_of f y)) u.pieces → AllByRecursion (λ y. InTree l words' views' (table_of f y)) u.pieces
+        home u = all_map (λ y. InTree l words views (table_of f y)) (λ y. InTree l words' views' (table_of f y)) u.pieces (λ y t. to_tree (table_of f y) t)
 
   on_path : (u : View) → AllByRecursion (IsOnPath f n words views u) u.path → AllByRecursion (IsOnPath f n words' views' u) u.path
   on_path u = all_map (IsOnPath f n words views u) (IsOnPath f n words' views' u) u.path (λ y b. record { at = to_linked_at y.frame y.position b.at; near = b.near })
@@ -190,12 +195,12 @@ module _ {f : Layout} {n l : ℕ} (good : IsLayout f) {words : List ℕ} (words'
       (λ j u ne here b. record { nodes = on_path u b.nodes; begins = b.begins; descends = b.descends }) r.paths
 
   -- what holds of a word of a table that was linked
-  pub words_still : (h i : ℕ) (q : Position) → ((p : Position) → There p → There' p) → entry_of f n words' h i ≡ entry_of f n words h i → IsLinkedAt n words views h q → i < 2 ^ f.index →
+  pub words_still : (h i : ℕ) (q : Position) → ((p : Position) → InTree l words views p → InTree l words' views' p) → entry_of f n words' h i ≡ entry_of f n words h i → IsLinkedAt n words views h q → i < 2 ^ f.index →
       has_child f l words' views' q i ≡ false → entry_of f n words' h i ≡ total (has_word f q i) views'
   words_still h i q to_tree same was small childless = same
       ∙ r.entries.words_are h i q was small
       (false_from_ne_true (has_child f l words views q i) (λ yes.
-      let b : (nat_lt 0 q.level ≡ true) × There (child_at f q i) = and_parts (nat_lt 0 q.level) _ yes in
+      let b : (nat_lt 0 q.level ≡ true) × InTree l words views (child_at f q i) = and_parts (nat_lt 0 q.level) _ yes in
       false≢true (sym childless ∙ and_from (nat_lt 0 q.level) _ b.0 (to_tree (child_at f q i) b.1))))
       ∙ sym (words_kept q i)
 

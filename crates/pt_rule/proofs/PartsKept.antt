@@ -68,6 +68,10 @@ links_else n g words words' views views' before after tags prepared = record {
   tags = λ h a. dite (ℕ_discrete h g) (λ e. absurd (before (subst (IsLinked n words views) e a))) (λ ne. tags h ne);
 }
 
+-- the position is one of the tree
+abbrev pub InTree : (l : ℕ) → List ℕ → List View → Position → Type 0
+InTree l words views p = IsTrue (is_in_tree l words views p)
+
 -- the same root, and the same positions
 pub record SameTree (l : ℕ) (words words' : List ℕ) (views views' : List View) : Type 0 where
   pub root : slice_index words' 0 ≡ slice_index words 0

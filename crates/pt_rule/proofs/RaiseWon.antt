@@ -20,7 +20,7 @@ use Rattle.pt_model.specs.Sets.{IsAmong}
 use Rattle.pt_view.specs.Views.{SameRange}
 use Rattle.pt_view.specs.Calls.{meets_span}
 use Rattle.pt_rule.specs.Totals.{total, bridge_in, has_bridge, has_piece, has_table, has_word}
-use Rattle.pt_rule.specs.Linked.{IsLinked, IsLinkedAt, is_in_tree}
+use Rattle.pt_rule.specs.Linked.{IsLinked, IsLinkedAt}
 use Rattle.pt_rule.specs.Lawful.{Lawful, BooksPart, EntriesPart, FramesPart, HasBridge, IsBridged, IsOwnPiece, IsOwnTable, ParentsPart, PathsPart, RootPart, has_child, slot_of}
 use Rattle.pt_rule.specs.Kinds.{over_top, with_spine}
 use Rattle.pt_model.proofs.Tops.{table_mono}
@@ -28,12 +28,13 @@ use Rattle.pt_model.proofs.Places.{entry_after_root, length_kept, root_same, tag
 use Rattle.pt_rule.proofs.TotalsKept.{at_inside, each_set, total_same}
 use Rattle.pt_model.proofs.Positions.{among_append, among_levels, is_same_self, same_cases, same_position}
 use Rattle.pt_view.proofs.Members.{all_map}
-use Rattle.pt_rule.proofs.PartsKept.{books_set, known_set}
+use Rattle.pt_rule.proofs.PartsKept.{InTree, books_set, known_set}
 use Rattle.pt_rule.proofs.TagFacts.{IsPreparedBy, prepared_by}
 use Rattle.pt_rule.proofs.TreeFacts.{level_low, linked_there, no_words_of, one_frame, piece_home, prepared_tag}
 use Rattle.pt_rule.proofs.FindsKept.{piece_kept, table_kept}
 use Rattle.pt_rule.proofs.RootKept.{spine_is}
 use Rattle.pt_rule.proofs.NewTable as linking
+use Rattle.pt_rule.proofs.NewTable.{LinksNew}
 use Rattle.pt_rule.proofs.BridgeKept.{bridge_here, bridge_low, bridge_none, bridge_total}
 
 -- the parent of a spine position is the next one, at its entry 0
@@ -107,12 +108,6 @@ module _ (f : Layout) (n l : ℕ) (good : IsLayout f) (words : List ℕ) (views 
     abbrev views' : List View
     views' = set views id w
 
-    abbrev There : Position → Type 0
-    There q = IsTrue (is_in_tree l words views q)
-
-    abbrev There' : Position → Type 0
-    There' q = IsTrue (is_in_tree l words' views' q)
-
     child_low : level + 1 < 8
     child_low = let a = legal in let b = good.levels_high in omega arith
 
@@ -129,7 +124,7 @@ module _ (f : Layout) (n l : ℕ) (good : IsLayout f) (words : List ℕ) (views 
         let book = r.books id v at live in let low = book.top_low in let most = r.root.greatest id v at in
         let same : starting_top v.levels ≡ starting_top l = ap starting_top levels in let is = was_level in omega arith
 
-    not_there : There child → ⊥
+    not_there : InTree l words views child → ⊥
     not_there t = let h = level_low f n l words views good r child t in let e = was_level in omega arith
 
     not_old : level + 1 ≡ level → ⊥
@@ -154,27 +149,15 @@ module _ (f : Layout) (n l : ℕ) (good : IsLayout f) (words : List ℕ) (views 
 
     -- The frames that are linked.
 
-    g_unlinked : IsLinked n words views g → ⊥
-    g_unlinked = linking.g_unlinked good words' id r at prepared w.top w.tables w.known w.path tags_kept
-
-    to_linked : (h : ℕ) → IsLinked n words views h → IsLinked n words' views' h
-    to_linked = linking.to_linked good words' id r at prepared w.top w.tables w.known w.path tags_kept
-
-    g_linked_at : IsLinkedAt n words' views' g child
-    g_linked_at = linking.g_linked_at good words' id r at prepared w.top w.tables w.known w.path tags_kept
-
-    to_linked_at : (h : ℕ) (q : Position) → IsLinkedAt n words views h q → IsLinkedAt n words' views' h q
-    to_linked_at = linking.to_linked_at good words' id r at prepared w.top w.tables w.known w.path tags_kept
-
-    back_linked_at : (h : ℕ) (q : Position) → IsLinkedAt n words' views' h q → ((h ≡ g) × (q ≡ child)) ⊎ IsLinkedAt n words views h q
-    back_linked_at = linking.back_linked_at good words' id r at prepared w.top w.tables w.known w.path tags_kept
+    link : LinksNew n words words' views views' g child
+    link = linking.links good words' id r at prepared w.top w.tables w.known w.path tags_kept
 
     -- The tree.
 
     tables_kept : (q : Position) → total (has_table q) views' ≡ total (has_table q) views
     tables_kept q = total_same (has_table q) views id v w at refl
 
-    to_tree : (q : Position) → There q → There' q
+    to_tree : (q : Position) → InTree l words views q → InTree l words' views' q
     to_tree q t = ⊎_elim
         (λ (s : (is_spine l q && nat_le q.level (root_level words)) ≡ true).
         let b : (is_spine l q ≡ true) × (nat_le q.level (root_level words) ≡ true) = and_parts (is_spine l q) _ s in
@@ -184,12 +167,12 @@ module _ (f : Layout) (n l : ℕ) (good : IsLayout f) (words : List ℕ) (views 
         or_right (is_spine l q && nat_le q.level (root_level words')) _ (ap (λ (k : ℕ). nat_lt 0 k) (tables_kept q) ∙ t))
         (or_cases (is_spine l q && nat_le q.level (root_level words)) _ t)
 
-    tree_child : There' child
+    tree_child : InTree l words' views' child
     tree_child = let now = level_now in
         or_left (is_spine l child && nat_le child.level (root_level words')) _
         (and_from (is_spine l child) _ (spine_is l (level + 1) (let low = start_low in omega arith)) (le-leb child.level (root_level words') (omega arith)))
 
-    back_tree : (q : Position) → There' q → (q ≡ child) ⊎ There q
+    back_tree : (q : Position) → InTree l words' views' q → (q ≡ child) ⊎ InTree l words views q
     back_tree q t = ⊎_elim
         (λ (s : (is_spine l q && nat_le q.level (root_level words')) ≡ true).
         let b : (is_spine l q ≡ true) × (nat_le q.level (root_level words') ≡ true) = and_parts (is_spine l q) _ s in
@@ -206,7 +189,7 @@ module _ (f : Layout) (n l : ℕ) (good : IsLayout f) (words : List ℕ) (views 
 
     -- the new top has the old one's pointer at its entry 0, and no other word
     g_entry : (i : ℕ) → i < 2 ^ f.index → entry_of f n words' g i ≡ bridge_in f g i (Some x)
-    g_entry i small = entry_kept g i ∙ r.frames.cleared g i by.within g_unlinked small ∙ bridge_total f n words views r.frames id v x at prepared i
+    g_entry i small = entry_kept g i ∙ r.frames.cleared g i by.within link.unlinked small ∙ bridge_total f n words views r.frames id v x at prepared i
 
     bridges_kept : (h i : ℕ) → h ≢ g → total (has_bridge f h i) views' ≡ total (has_bridge f h i) views
     bridges_kept h i ne = total_same (has_bridge f h i) views id v w at (sym (ap (bridge_in f h i) prepared ∙ bridge_none f h i (Some x) (ne_eqb g h (λ e. ne (sym e)))))
@@ -214,12 +197,12 @@ module _ (f : Layout) (n l : ℕ) (good : IsLayout f) (words : List ℕ) (views 
     frames_won : FramesPart f n words' views'
     frames_won = linking.frames_won good words' id r at prepared w.top w.tables w.known w.path tags_kept
         (λ h i lt unlinked small.
-        let ne : h ≢ g = (λ e. unlinked (subst (IsLinked n words' views') (sym e) g_linked_at.is_linked)) in
-        entry_kept h i ∙ r.frames.cleared h i lt (λ b. unlinked (to_linked h b)) small ∙ sym (bridges_kept h i ne))
+        let ne : h ≢ g = (λ e. unlinked (subst (IsLinked n words' views') (sym e) link.here.is_linked)) in
+        entry_kept h i ∙ r.frames.cleared h i lt (λ b. unlinked (link.to h b)) small ∙ sym (bridges_kept h i ne))
 
     root_won : RootPart n words' views'
     root_won = record {
-      is_linked = subst (λ (s : ℕ × ℕ). IsLinkedAt n words' views' s.0 (spine_position s.1)) (λ k. (sym frame_now k, sym level_now k)) g_linked_at;
+      is_linked = subst (λ (s : ℕ × ℕ). IsLinkedAt n words' views' s.0 (spine_position s.1)) (λ k. (sym frame_now k, sym level_now k)) link.here;
       greatest = each_set (λ u. u.top ≤ root_level words) (λ u. u.top ≤ root_level words') views id v w at
           (let now = level_now in omega arith) (λ j u ne here b. let was = was_level in let now = level_now in omega arith) r.root.greatest;
       reached = (id, w, set_here views id w (at_inside views id v at), live, sym level_now);
@@ -235,8 +218,8 @@ module _ (f : Layout) (n l : ℕ) (good : IsLayout f) (words : List ℕ) (views 
     parents_won = record {
       closed = λ q t ne. ⊎_elim
           (λ (e : q ≡ child). absurd (ne (e ∙ ap spine_position (sym level_now))))
-          (λ (was : There q). ⊎_elim
-          (λ (top : q ≡ spine_position level). subst There' (sym (ap (parent_of f) top ∙ spine_parent f level)) tree_child)
+          (λ (was : InTree l words views q). ⊎_elim
+          (λ (top : q ≡ spine_position level). subst (InTree l words' views') (sym (ap (parent_of f) top ∙ spine_parent f level)) tree_child)
           (λ (under : q ≢ spine_position (root_level words)). to_tree (parent_of f q) (r.parents.closed q was under)) (old_place q ne))
           (back_tree q t);
       named = λ y h q b ne c. ⊎_elim
@@ -244,7 +227,7 @@ module _ (f : Layout) (n l : ℕ) (good : IsLayout f) (words : List ℕ) (views 
           (λ (was : IsLinkedAt n words views h q). ⊎_elim
           (λ (top : q ≡ spine_position level). top_named y h q was top c)
           (λ (under : q ≢ spine_position (root_level words)). old_named y h q was under c) (old_place q ne))
-          (back_linked_at h q b);
+          (link.back_at h q b);
     }
       where
         -- the pointer to the old top stands at entry 0 of the new one
@@ -253,7 +236,7 @@ module _ (f : Layout) (n l : ℕ) (good : IsLayout f) (words : List ℕ) (views 
         top_named y h q b top c =
             let here : IsLinkedAt n words' views' y child = subst (IsLinkedAt n words' views' y) (ap (parent_of f) top ∙ spine_parent f level) c in
             let is_g : y ≡ g = ⊎_elim (λ (new : (y ≡ g) × (child ≡ child)). new.0)
-            (λ (was : IsLinkedAt n words views y child). absurd (not_there (linked_there f n l words views good r y child was))) (back_linked_at y child here) in
+            (λ (was : IsLinkedAt n words views y child). absurd (not_there (linked_there f n l words views good r y child was))) (link.back_at y child here) in
             let is_old : h ≡ old = one_frame f n l words views good r h old (spine_position level) (subst (IsLinkedAt n words views h) top b) old_linked in
             (λ k. entry_of f n words' (is_g k) (slot_of f (top k))) ∙ ap (entry_of f n words' g) (spine_slot f level)
             ∙ g_entry 0 (pow_pos f.index) ∙ bridge_here f x ∙ (λ k. f.pointer ((sym top k).level + 1) (frame_address f (sym is_old k)))
@@ -261,11 +244,11 @@ module _ (f : Layout) (n l : ℕ) (good : IsLayout f) (words : List ℕ) (views 
         old_named : (y h : ℕ) (q : Position) → IsLinkedAt n words views h q → q ≢ spine_position (root_level words) → IsLinkedAt n words' views' y (parent_of f q) →
             entry_of f n words' y (slot_of f q) ≡ f.pointer (q.level + 1) (frame_address f h)
         old_named y h q b ne c =
-            let up : There (parent_of f q) = r.parents.closed q (linked_there f n l words views good r h q b) ne in
+            let up : InTree l words views (parent_of f q) = r.parents.closed q (linked_there f n l words views good r h q b) ne in
             ⊎_elim
-            (λ (new : (y ≡ g) × (parent_of f q ≡ child)). absurd (not_there (subst There new.1 up)))
+            (λ (new : (y ≡ g) × (parent_of f q ≡ child)). absurd (not_there (subst (InTree l words views) new.1 up)))
             (λ (was : IsLinkedAt n words views y (parent_of f q)). entry_kept y (slot_of f q) ∙ r.parents.named y h q b ne was)
-            (back_linked_at y (parent_of f q) c)
+            (link.back_at y (parent_of f q) c)
 
     no_piece_in : (i : ℕ) → total (has_piece f child i) views ≡ 0
     no_piece_in = linking.no_piece_in good words' id r at prepared w.top w.tables w.known w.path tags_kept not_there tree_child to_tree back_tree
@@ -285,12 +268,12 @@ module _ (f : Layout) (n l : ℕ) (good : IsLayout f) (words : List ℕ) (views 
         (λ k. entry_of f n words' (new.0 k) i) ∙ g_entry i small ∙ bridge_low f g i x (λ z. omega arith)
         ∙ sym (linking.words_kept good words' id r at prepared w.top w.tables w.known w.path tags_kept q i ∙ ap (λ (y : Position). total (has_word f y i) views) new.1 ∙ no_words_of f child i views (no_piece_in i)))
         (λ (was : IsLinkedAt n words views h q). linking.words_still good words' id r at prepared w.top w.tables w.known w.path tags_kept h i q to_tree (entry_kept h i) was small childless)
-        (back_linked_at h q b))
+        (link.back_at h q b))
       where
         -- the old top is the child at entry 0
         has_old : has_child f l words' views' child 0 ≡ true
         has_old = and_from (nat_lt 0 (level + 1)) _ (lt-ltb 0 (level + 1) (omega arith))
-            (to_tree (child_at f child 0) (subst There (sym (spine_child f level)) (linked_there f n l words views good r old (spine_position level) old_linked)))
+            (to_tree (child_at f child 0) (subst (InTree l words views) (sym (spine_child f level)) (linked_there f n l words views good r old (spine_position level) old_linked)))
 
     range_kept : SameRange v w
     range_kept = record { frames = refl; levels = refl; first = refl; count = refl }
@@ -323,16 +306,16 @@ module _ (f : Layout) (n l : ℕ) (good : IsLayout f) (words : List ℕ) (views 
     on_spine = let start = start_here in spine_is v.levels (level + 1) (omega arith)
 
     paths_won : PathsPart f n words' views'
-    paths_won = linking.paths_won good words' id r at prepared w.top w.tables w.known w.path tags_kept (record { nodes = (record { at = g_linked_at; near = inl on_spine }, tt); begins = on_spine; descends = tt })
+    paths_won = linking.paths_won good words' id r at prepared w.top w.tables w.known w.path tags_kept (record { nodes = (record { at = link.here; near = inl on_spine }, tt); begins = on_spine; descends = tt })
 
     -- the spine up to the new top is of the tree
-    spine_known : (p : Position) → IsAmong w.known p → There' p × (IsTrue (is_spine w.levels p) ⊎ IsTrue (meets_span w p.base (end_of_table f p)))
+    spine_known : (p : Position) → IsAmong w.known p → InTree l words' views' p × (IsTrue (is_spine w.levels p) ⊎ IsTrue (meets_span w p.base (end_of_table f p)))
     spine_known p a = ⊎_elim
         (λ (new : IsAmong (map spine_position (levels_between (starting_top v.levels) (level + 1))) p).
         let t : (k : ℕ) × (starting_top v.levels ≤ k) × (k < starting_top v.levels + (level + 1 + 1 - starting_top v.levels)) × (p ≡ spine_position k) =
         among_levels spine_position (level + 1 + 1 - starting_top v.levels) (starting_top v.levels) p new in
         let from = t.1 in let to = t.2 in let start = start_here in (
-          subst There' (sym t.3)
+          subst (InTree l words' views') (sym t.3)
               (let now = level_now in or_left (is_spine l (spine_position t.0) && nat_le t.0 (root_level words')) _
               (and_from (is_spine l (spine_position t.0)) _ (subst (λ (k : ℕ). IsTrue (is_spine k (spine_position t.0))) levels_are (spine_is v.levels t.0 from)) (le-leb t.0 (root_level words') (omega arith)))),
           inl (subst (λ (q : Position). IsTrue (is_spine v.levels q)) (sym t.3) (spine_is v.levels t.0 from)),

@@ -31,7 +31,7 @@ use Rattle.pt_rule.proofs.TotalsKept.{at_inside, each_set, total_at, total_only,
 use Rattle.pt_model.proofs.Positions.{bit_false, bit_true, is_same_self, same_cases}
 use Rattle.pt_view.proofs.Members.{all_map}
 use Rattle.pt_view.proofs.Paths.{all_front}
-use Rattle.pt_rule.proofs.PartsKept.{prepared_moved, prepared_within, spans_set, books_set, busy_set, purses_same, sizes_same}
+use Rattle.pt_rule.proofs.PartsKept.{InTree, prepared_moved, prepared_within, spans_set, books_set, busy_set, purses_same, sizes_same}
 use Rattle.pt_rule.proofs.PositionFacts.{child_of_parent, parent_of_child, slot_below, slot_of_child}
 use Rattle.pt_rule.proofs.TagFacts.{no_bridge}
 use Rattle.pt_rule.proofs.TreeFacts.{all_both, linked_there, level_low, no_words_of, one_frame, pointer_at, table_there, there_position}
@@ -57,12 +57,6 @@ module _ (f : Layout) (n l : ℕ) (good : IsLayout f) (words : List ℕ) (views 
 
   abbrev views' : List View
   views' = set views id w
-
-  abbrev There : Position → Type 0
-  There q = IsTrue (is_in_tree l words views q)
-
-  abbrev There' : Position → Type 0
-  There' q = IsTrue (is_in_tree l words' views' q)
 
   frame_at : IsLinkedAt n words views frame p
   frame_at = over_linked f n l good words views r id v at live frame number may
@@ -180,7 +174,7 @@ module _ (f : Layout) (n l : ℕ) (good : IsLayout f) (words : List ℕ) (views 
       total_only (has_table child) views' id w w_at (λ j u ne e. not_theirs f n l good words views r id v at live frame number may j u ne (sym (set_else views id j w ne) ∙ e)) in
       only ∙ dite (dec_le (places child w.tables) 0) (λ none. omega arith) (λ some_one. absurd ((was v.tables child (omega arith)).0 refl))
 
-  gone : There' child → ⊥
+  gone : InTree l words' views' child → ⊥
   gone t = ⊎_elim
       (λ (s : (is_spine l child && nat_le child.level (root_level words')) ≡ true).
       let b : (is_spine l child ≡ true) × (nat_le child.level (root_level words') ≡ true) = and_parts (is_spine l child) _ s in
@@ -188,11 +182,11 @@ module _ (f : Layout) (n l : ℕ) (good : IsLayout f) (words : List ℕ) (views 
       (λ (s : nat_lt 0 (total (has_table child) views') ≡ true). let h = ltb-true 0 (total (has_table child) views') s in let none = none_there in omega arith)
       (or_cases (is_spine l child && nat_le child.level (root_level words')) _ t)
 
-  to_tree : (q : Position) → (q ≡ child → ⊥) → There q → There' q
+  to_tree : (q : Position) → (q ≡ child → ⊥) → InTree l words views q → InTree l words' views' q
   to_tree q ne t = tree_else q ne ∙ t
 
-  back_tree : (q : Position) → There' q → There q × (q ≡ child → ⊥)
-  back_tree q t = let ne : q ≡ child → ⊥ = (λ e. gone (subst There' e t)) in (sym (tree_else q ne) ∙ t, ne)
+  back_tree : (q : Position) → InTree l words' views' q → InTree l words views q × (q ≡ child → ⊥)
+  back_tree q t = let ne : q ≡ child → ⊥ = (λ e. gone (subst (InTree l words' views') e t)) in (sym (tree_else q ne) ∙ t, ne)
 
   -- The parts.
 
@@ -273,7 +267,7 @@ module _ (f : Layout) (n l : ℕ) (good : IsLayout f) (words : List ℕ) (views 
         back_linked_at h (placed_at (tag words' h)) (record { is_linked = b; at = refl }) in
         to_tree (placed_at (tag words' h)) old.1 (linked_there f n l words views good r h (placed_at (tag words' h)) old.0);
     all = λ q t.
-        let old : There q × (q ≡ child → ⊥) = back_tree q t in
+        let old : InTree l words views q × (q ≡ child → ⊥) = back_tree q t in
         let a : (h : ℕ) × IsLinkedAt n words views h q = r.positions.all q old.0 in (a.0, to_linked_at a.0 q old.1 a.1);
   }
 
@@ -296,7 +290,7 @@ module _ (f : Layout) (n l : ℕ) (good : IsLayout f) (words : List ℕ) (views 
   parents_cut : ParentsPart f n l words' views'
   parents_cut = record {
     closed = λ q t ne.
-        let old : There q × (q ≡ child → ⊥) = back_tree q t in
+        let old : InTree l words views q × (q ≡ child → ⊥) = back_tree q t in
         to_tree (parent_of f q) (not_parent f n l good words views r id v at live frame number may q old.0) (r.parents.closed q old.0 (still q ne));
     named = λ x h q b ne c.
         let b' : IsLinkedAt n words views h q × (q ≡ child → ⊥) = back_linked_at h q b in
@@ -317,19 +311,19 @@ module _ (f : Layout) (n l : ℕ) (good : IsLayout f) (words : List ℕ) (views 
   no_piece_at = r.entries.apart number p (and_from (nat_lt 0 p.level) _ (lt-ltb 0 p.level may.bare.high) (child_is_there f n l good words views r id v at live frame number may))
 
   -- where a child is at another entry, it is another
-  other_child : (q : Position) (i : ℕ) → 0 < q.level → i < 2 ^ f.index → There q → (q ≡ p → i ≡ number → ⊥) → child_at f q i ≡ child → ⊥
+  other_child : (q : Position) (i : ℕ) → 0 < q.level → i < 2 ^ f.index → InTree l words views q → (q ≡ p → i ≡ number → ⊥) → child_at f q i ≡ child → ⊥
   other_child q i high small t other e =
       let q_aligned = (there_position f n l words views good r q t).aligned in
       other (sym (parent_of_child f q i high small q_aligned) ∙ ap (parent_of f) e ∙ parent_of_child f p number may.bare.high may.within aligned)
       (sym (slot_of_child f q i high small q_aligned) ∙ ap (slot_of f) e ∙ slot_of_child f p number may.bare.high may.within aligned)
 
   -- the homes of a view's pieces
-  homes_of : (j : ℕ) (u : View) → get_elem? views j ≡ some u → AllByRecursion (λ x. There (table_of f x)) u.pieces → AllByRecursion (λ x. There' (table_of f x)) u.pieces
+  homes_of : (j : ℕ) (u : View) → get_elem? views j ≡ some u → AllByRecursion (λ x. InTree l words views (table_of f x)) u.pieces → AllByRecursion (λ x. InTree l words' views' (table_of f x)) u.pieces
   homes_of j u here all = dite (dec_le u.count 0)
-      (λ none. let e : u ≡ spent = r.sizes.dead j u here (omega arith) in subst (λ (z : View). AllByRecursion (λ x. There' (table_of f x)) z.pieces) (sym e) tt)
-      (λ alive. all_map (λ x. There (table_of f x) × (IsOwnPiece f u x × IsOneOf u.pieces x)) (λ x. There' (table_of f x)) u.pieces
+      (λ none. let e : u ≡ spent = r.sizes.dead j u here (omega arith) in subst (λ (z : View). AllByRecursion (λ x. InTree l words' views' (table_of f x)) z.pieces) (sym e) tt)
+      (λ alive. all_map (λ x. InTree l words views (table_of f x) × (IsOwnPiece f u x × IsOneOf u.pieces x)) (λ x. InTree l words' views' (table_of f x)) u.pieces
       (λ x b. to_tree (table_of f x) (no_home f n l good words views r id v at live frame number may j u here x b.1.0 b.1.1) b.0)
-      (all_both (λ x. There (table_of f x)) (λ x. IsOwnPiece f u x × IsOneOf u.pieces x) u.pieces all (pieces_own f n l good words views r id v at live frame number may j u here (omega arith))))
+      (all_both (λ x. InTree l words views (table_of f x)) (λ x. IsOwnPiece f u x × IsOneOf u.pieces x) u.pieces all (pieces_own f n l good words views r id v at live frame number may j u here (omega arith))))
 
   entries_cut : EntriesPart f n l words' views'
   entries_cut = record {
@@ -344,16 +338,16 @@ module _ (f : Layout) (n l : ℕ) (good : IsLayout f) (words : List ℕ) (views 
         entry_kept h i small (λ is_frame is_number. other (sym old.0.at ∙ ap (λ (k : ℕ). placed_at (tag words k)) is_frame ∙ frame_at.at) is_number)
         ∙ r.entries.words_are h i q old.0 small
         (false_from_ne_true (has_child f l words views q i) (λ yes.
-        let c : (nat_lt 0 q.level ≡ true) × There (child_at f q i) = and_parts (nat_lt 0 q.level) _ yes in
+        let c : (nat_lt 0 q.level ≡ true) × InTree l words views (child_at f q i) = and_parts (nat_lt 0 q.level) _ yes in
         let ne = other_child q i (ltb-true 0 q.level c.0) small (linked_there f n l words views good r h q old.0) other in
         false≢true (sym none ∙ and_from (nat_lt 0 q.level) _ c.0 (to_tree (child_at f q i) ne c.1))))
         ∙ sym (words_kept q i))
         (entry_cases p number q i);
     apart = λ i q yes.
-        let c : (nat_lt 0 q.level ≡ true) × There' (child_at f q i) = and_parts (nat_lt 0 q.level) _ yes in
+        let c : (nat_lt 0 q.level ≡ true) × InTree l words' views' (child_at f q i) = and_parts (nat_lt 0 q.level) _ yes in
         pieces_kept q i ∙ r.entries.apart i q (and_from (nat_lt 0 q.level) _ c.0 (back_tree (child_at f q i) c.1).0);
     once = λ i q. subst (λ (t : ℕ). t ≤ 1) (sym (pieces_kept q i)) (r.entries.once i q);
-    homes = each_set (λ u. AllByRecursion (λ x. There (table_of f x)) u.pieces) (λ u. AllByRecursion (λ x. There' (table_of f x)) u.pieces) views id v w at
+    homes = each_set (λ u. AllByRecursion (λ x. InTree l words views (table_of f x)) u.pieces) (λ u. AllByRecursion (λ x. InTree l words' views' (table_of f x)) u.pieces) views id v w at
         (homes_of id v at (r.entries.homes id v at)) (λ j u ne here b. homes_of j u here b) r.entries.homes;
   }
 
@@ -421,17 +415,17 @@ module _ (f : Layout) (n l : ℕ) (good : IsLayout f) (words : List ℕ) (views 
   abbrev IsKnown : View → Position → Type 0
   IsKnown u q = IsTrue (is_spine u.levels q) ⊎ IsTrue (meets_span u q.base (end_of_table f q))
 
-  known_else : (j : ℕ) (u : View) → j ≢ id → get_elem? views j ≡ some u → ((q : Position) → IsAmong u.known q → There q × IsKnown u q) → (q : Position) → IsAmong u.known q → There' q × IsKnown u q
+  known_else : (j : ℕ) (u : View) → j ≢ id → get_elem? views j ≡ some u → ((q : Position) → IsAmong u.known q → InTree l words views q × IsKnown u q) → (q : Position) → IsAmong u.known q → InTree l words' views' q × IsKnown u q
   known_else j u ne here b q m = dite (dec_le u.count 0)
       (λ none.
       let e : u ≡ spent = r.sizes.dead j u here (omega arith) in
       let nothing : places q u.known ≡ 0 = ap (λ (z : View). places q z.known) e in
       let some_one : 0 < places q u.known = m in absurd (omega arith))
-      (λ alive. let c : There q × IsKnown u q = b q m in (to_tree q (else_near j u ne here (omega arith) q c.1) c.0, c.1))
+      (λ alive. let c : InTree l words views q × IsKnown u q = b q m in (to_tree q (else_near j u ne here (omega arith) q c.1) c.0, c.1))
 
   known_cut : KnownPart f l words' views'
-  known_cut = each_set (λ u. (q : Position) → IsAmong u.known q → There q × IsKnown u q) (λ u. (q : Position) → IsAmong u.known q → There' q × IsKnown u q) views id v w at
-      (λ q m. let a : (q ≡ child → ⊥) × IsAmong v.known q = was v.known q m in let c : There q × IsKnown v q = r.known id v at q a.1 in (to_tree q a.0 c.0, c.1))
+  known_cut = each_set (λ u. (q : Position) → IsAmong u.known q → InTree l words views q × IsKnown u q) (λ u. (q : Position) → IsAmong u.known q → InTree l words' views' q × IsKnown u q) views id v w at
+      (λ q m. let a : (q ≡ child → ⊥) × IsAmong v.known q = was v.known q m in let c : InTree l words views q × IsKnown v q = r.known id v at q a.1 in (to_tree q a.0 c.0, c.1))
       (λ j u ne here b. known_else j u ne here b) r.known
 
   lawful : Lawful f n l words' views'
