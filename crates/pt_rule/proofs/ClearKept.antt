@@ -1,33 +1,32 @@
 -- The law of a store of zero over a piece's word.
-use Rattle.std.proofs.Common.{◌≡◌, ◌≢◌, ℕ, Bool, false, ◌+◌, ◌^◌, ◌<◌, List, set, refl, ap, sym, ◌∙◌, subst, ⊎_elim, arith}
-use Rattle.std.specs.Prelude.{IsTrue, ◌&&◌, nat_lt, slice_index, slice_set, Some}
-use Rattle.std.specs.List.{AllByRecursion}
-use Rattle.std.proofs.lemmas.Bool.{and_from, false≢true, false_from_ne_true, lt-ltb}
+use Rattle.std.proofs.Common.{◌≡◌, ℕ, Bool, false, ◌^◌, ◌<◌, List, set, refl, ap, sym, ◌∙◌, subst, ⊎_elim, arith}
+use Rattle.std.specs.Prelude.{IsTrue, ◌&&◌, nat_lt, slice_set, Some}
+use Rattle.std.proofs.lemmas.Bool.{false_from_ne_true}
 use mathlib.Core.Option.{some}
 use lib.ListN.{get_elem?}
 use Rattle.pt_model.specs.declared.position.Position.{Position}
 use Rattle.pt_model.specs.Layout.{Layout}
-use Rattle.pt_model.specs.Tables.{child_at, parent_of, spine_position}
-use Rattle.pt_model.specs.Words.{tag, placed_at, entry_place, entry_of, root_level}
+use Rattle.pt_model.specs.Tables.{child_at}
+use Rattle.pt_model.specs.Words.{tag, placed_at, entry_place, entry_of}
 use Rattle.pt_format.specs.Laws.{IsLayout}
 use Rattle.pt_view.specs.declared.view.View.{View}
 use Rattle.pt_view.specs.declared.view.Piece.{Piece}
 use Rattle.pt_view.specs.Pieces.{table_of, number_of, word_of}
 use Rattle.pt_view.specs.Calls.{drop_at, pieces_at, MayDrop}
 use Rattle.pt_view.specs.Views.{SameRange}
-use Rattle.pt_rule.specs.Totals.{total, prepares, has_table, has_piece, has_word, words_at}
-use Rattle.pt_rule.specs.Linked.{IsLinked, IsLinkedAt, is_in_tree}
-use Rattle.pt_rule.specs.Lawful.{Lawful, EntriesPart, HasBook, IsOnPath, IsOwnPiece, IsOwnTable, slot_of, has_child}
+use Rattle.pt_rule.specs.Totals.{total, has_table, has_piece, has_word, words_at}
+use Rattle.pt_rule.specs.Linked.{IsLinkedAt, is_in_tree}
+use Rattle.pt_rule.specs.Lawful.{Lawful, EntriesPart, HasBook, IsOnPath, IsOwnPiece, IsOwnTable, has_child}
 use Rattle.pt_rule.specs.Kinds.{Keeps, IsLowestIn, ClearTells, clear, cleared}
-use Rattle.pt_model.proofs.Places.{entry_same, entry_else, tag_after_entry, root_after_entry, length_kept}
-use Rattle.pt_rule.proofs.TotalsKept.{total_at, total_only, total_same, total_set, total_two, each_set}
+use Rattle.pt_model.proofs.Places.{entry_same, root_after_entry}
+use Rattle.pt_rule.proofs.TotalsKept.{total_at, total_only, total_same, total_set, total_two}
 use Rattle.pt_view.proofs.Members.{all_map}
 use Rattle.pt_view.proofs.Paths.{lowest_has}
 use Rattle.pt_view.proofs.Pieces.{one_here}
-use Rattle.pt_rule.proofs.PartsKept.{SameLinks, links_same, linked_back, SameTree, tree_same, spans_set, frames_same, positions_same, root_same, parents_same, books_set, paths_set, path_same, purses_same, sizes_same, busy_set, known_set}
-use Rattle.pt_rule.proofs.PositionFacts.{child_of_parent, slot_below}
+use Rattle.pt_rule.proofs.PartsKept.{InTree, SameLinks, linked_back, SameTree, tree_same}
 use Rattle.pt_rule.proofs.PieceFacts.{no_words}
-use Rattle.pt_rule.proofs.TreeFacts.{is_position, linked_there, no_words_of, one_frame}
+use Rattle.pt_rule.proofs.TreeFacts.{no_words_of, one_frame}
+use Rattle.pt_rule.proofs.StoredEntry as store
 use Rattle.pt_rule.proofs.FindsKept.{piece_kept, table_kept}
 use Rattle.pt_rule.proofs.ListsWithout.{all_filtered, entry_cases, member_counts, member_word, none_left, pieces_left, words_left, order_left}
 
@@ -78,17 +77,11 @@ module _ (f : Layout) (n l : ℕ) (good : IsLayout f) (words : List ℕ) (views 
 
   -- The tree and the linked frames stay.
 
-  tags : (h : ℕ) → h < n → tag words' h ≡ tag words h
-  tags h lt = tag_after_entry f n words frame number 0 h lt
-
-  root : slice_index words' 0 ≡ slice_index words 0
-  root = root_after_entry f n words frame number 0
-
   links : SameLinks n words words' views views'
-  links = links_same n words words' views views' tags (λ h. total_same (prepares h) views id v w at refl)
+  links = store.links good r id at live number 0 here may.entry.within no_child w.pieces w.tables w.top w.stores
 
   tree : SameTree l words words' views views'
-  tree = tree_same l words words' views views' root (λ q. total_same (has_table q) views id v w at refl)
+  tree = tree_same l words words' views views' (root_after_entry f n words frame number 0) (λ q. total_same (has_table q) views id v w at refl)
 
   -- The book.
 
@@ -107,7 +100,7 @@ module _ (f : Layout) (n l : ℕ) (good : IsLayout f) (words : List ℕ) (views 
 
   -- another entry than the one that is cleared
   else_same : (h i : ℕ) → i < 2 ^ f.index → (h ≡ frame → i ≡ number → ⊥) → entry_of f n words' h i ≡ entry_of f n words h i
-  else_same h i small other = entry_else f n words frame number 0 h i may.entry.within small other
+  else_same = store.else_same good r id at live number 0 here may.entry.within no_child w.pieces w.tables w.top w.stores
 
   left_are : w.pieces ≡ drop_at f p number v.pieces
   left_are = let h : (p ≡ table_of f x) × (number_of f x ≡ number) = one_here f p number x may.here in λ k. drop_at f (sym h.0 k) (h.1 k) v.pieces
@@ -146,42 +139,12 @@ module _ (f : Layout) (n l : ℕ) (good : IsLayout f) (words : List ℕ) (views 
     once = λ i q. ⊎_elim
         (λ (e : (q ≡ p) × (i ≡ number)). let none : total (has_piece f q i) views' ≡ 0 = (λ k. total (has_piece f (e.0 k) (e.1 k)) views') ∙ piece_here in omega arith)
         (λ (other : q ≡ p → i ≡ number → ⊥). let t = piece_else q i other in let old = r.entries.once i q in omega arith) (entry_cases p number q i);
-    homes = each_set (λ u. AllByRecursion (λ y. IsTrue (is_in_tree l words views (table_of f y))) u.pieces) (λ u. AllByRecursion (λ y. IsTrue (is_in_tree l words' views' (table_of f y))) u.pieces) views id v w at
-        (all_filtered _ (λ y. IsTrue (is_in_tree l words' views' (table_of f y))) v.pieces (home v (r.entries.homes id v at)))
-        (λ j u ne e h. home u h) r.entries.homes;
+    homes = store.homes good r id at live number 0 here may.entry.within no_child w.pieces w.tables w.top w.stores tree
+        (λ old. all_filtered _ (λ y. IsTrue (is_in_tree l words' views' (table_of f y))) v.pieces (all_map (λ (y : Piece). InTree l words views (table_of f y)) (λ y. InTree l words' views' (table_of f y)) v.pieces (λ y t. tree.tree (table_of f y) ∙ t) old));
   }
-    where
-      home : (u : View) → AllByRecursion (λ y. IsTrue (is_in_tree l words views (table_of f y))) u.pieces → AllByRecursion (λ y. IsTrue (is_in_tree l words' views' (table_of f y))) u.pieces
-      home u = all_map (λ (y : Piece). IsTrue (is_in_tree l words views (table_of f y))) (λ y. IsTrue (is_in_tree l words' views' (table_of f y))) u.pieces (λ y h. tree.tree (table_of f y) ∙ h)
-
-  -- no pointer stood at the entry
-  pointers : (g h : ℕ) (q : Position) → IsLinkedAt n words views h q → q ≢ spine_position (root_level words) → IsLinkedAt n words views g (parent_of f q) →
-      entry_of f n words' g (slot_of f q) ≡ entry_of f n words g (slot_of f q)
-  pointers g h q a ne b =
-      let aligned = (is_position f n l words views good r h q a).0.aligned in
-      else_same g (slot_of f q) (slot_below f q aligned)
-      (λ e d.
-      let up : parent_of f q ≡ p = sym b.at ∙ ap (λ (z : ℕ). placed_at (tag words z)) e ∙ here.at in
-      let child : child_at f p number ≡ q = (λ k. child_at f (sym up k) (sym d k)) ∙ child_of_parent f q aligned in
-      let high : 0 < p.level = (let level : q.level + 1 ≡ p.level = ap (λ (z : Position). z.level) up in omega arith) in
-      false≢true (sym no_child ∙ and_from (nat_lt 0 p.level) _ (lt-ltb 0 p.level high) (ap (is_in_tree l words views) child ∙ linked_there f n l words views good r h q a)))
 
   lawful : Lawful f n l words' views'
-  lawful = record {
-    spans = spans_set f views id v w at same r.spans;
-    frames = frames_same f n words words' views id v w at links tags refl refl refl
-        (λ h i lt unlinked small. else_same h i small (λ e d. unlinked (subst (IsLinked n words views) (sym e) here.is_linked))) r.frames;
-    positions = positions_same f n l words words' views views' links tree r.positions;
-    root = (let most = r.root.greatest id v at in root_same n l words words' views id v w at links root refl (omega arith) most r.root);
-    parents = parents_same f n l words words' views views' links tree pointers r.parents;
-    entries = entries;
-    books = books_set f views id v w at (λ some_page. book) r.books;
-    paths = paths_set f n words words' views id v w at links (path_same f n words words' views views' v w links same refl (r.paths id v at)) r.paths;
-    purses = purses_same f n words words' views id v w at tags refl refl r.frames r.purses;
-    sizes = sizes_same f n l words words' views id v w at live same (length_kept words (entry_place f n frame number) 0) r.sizes;
-    busy = busy_set f n words words' views id v w at (λ h lt some_tag e. some_tag (sym (tags h lt) ∙ e)) (λ whole h lt b e. r.busy id v at whole h lt b (sym (tags h lt) ∙ e)) r.busy;
-    known = known_set f l words words' views id v w at (λ q e. tree.tree q ∙ e) (λ q m. let k = r.known id v at q m in (tree.tree q ∙ k.0, k.1)) r.known;
-  }
+  lawful = store.stored good r id at live number 0 here may.entry.within no_child w.pieces w.tables w.top w.stores tree entries book (omega arith) (r.root.greatest id v at)
 
   tells : ClearTells f v x (entry_of f n words frame number)
   tells =

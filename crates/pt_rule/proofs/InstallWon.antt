@@ -10,7 +10,7 @@ use Rattle.atomic_table.proofs.Lists.{set_here, set_else}
 use Rattle.pt_model.specs.declared.position.Position.{Position}
 use Rattle.pt_model.specs.Layout.{Layout}
 use Rattle.pt_model.specs.Tables.{IsPosition, child_at, end_of_table, is_same, is_spine, parent_of, spine_position}
-use Rattle.pt_model.specs.Words.{entry_of, entry_place, frame_address, placed_at, placed_word, root_frame, root_level, tag}
+use Rattle.pt_model.specs.Words.{entry_of, entry_place, frame_address, placed_at, root_frame, root_level, tag}
 use Rattle.pt_format.specs.Words.{IsTableLevel, IsTableAddress}
 use Rattle.pt_format.specs.Laws.{IsLayout, WordsDiffer}
 use Rattle.pt_view.specs.declared.view.View.{View}

@@ -36,6 +36,7 @@ mod NewTable
 mod InstallWon
 mod InstallKept
 mod WriteFacts
+mod StoredEntry
 mod WriteKept
 mod ClearKept
 mod UnlinkFacts

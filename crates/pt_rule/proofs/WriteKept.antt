@@ -1,15 +1,14 @@
 -- The law of a store of a piece's word.
 use Rattle.std.proofs.Common.{◌≡◌, ◌≢◌, ◌⊎◌, inl, inr, ℕ, Bool, true, false, ◌+◌, ◌*◌, ◌%◌, ◌^◌, ◌<◌, ◌≤◌, List, [], ◌∷◌, set, refl, ap, sym, ◌∙◌, subst, ⊎_elim, arith}
-use Rattle.std.specs.Prelude.{IsTrue, ◌==◌, ◌&&◌, ◌||◌, nat_lt, nat_le, not, map, slice_index, slice_set}
-use Rattle.std.specs.List.{AllByRecursion}
-use Rattle.std.proofs.lemmas.Bool.{and_from, cases_Bool, false≢true, lt-ltb, le-leb}
+use Rattle.std.specs.Prelude.{IsTrue, ◌==◌, ◌&&◌, ◌||◌, nat_lt, nat_le, not, map, slice_set}
+use Rattle.std.proofs.lemmas.Bool.{and_from, cases_Bool, false≢true, le-leb}
 use mathlib.Core.Option.{some}
 use mathlib.Core.Logic.{dite}
 use native.Mathlib.Decide.{ℕ_discrete}
 use lib.ListN.{get_elem?}
 use Rattle.pt_model.specs.declared.position.Position.{Position}
 use Rattle.pt_model.specs.Layout.{Layout, end_of, input_pages}
-use Rattle.pt_model.specs.Tables.{IsPosition, child_at, end_of_table, is_same, is_spine, least_top, levels_between, parent_of, position_over, spine_position, starting_top}
+use Rattle.pt_model.specs.Tables.{IsPosition, child_at, end_of_table, is_same, is_spine, least_top, levels_between, position_over, spine_position, starting_top}
 use Rattle.pt_model.specs.Words.{tag, placed_at, entry_place, entry_of, root_level}
 use Rattle.pt_format.specs.Laws.{IsLayout}
 use Rattle.pt_view.specs.declared.view.View.{View}
@@ -19,20 +18,20 @@ use Rattle.pt_model.specs.Sets.{IsAmong}
 use Rattle.pt_view.specs.Pieces.{add_piece, first_of, table_of, number_of, level_of, word_of}
 use Rattle.pt_view.specs.Calls.{meets_span, off_spine, pieces_at, MayPut}
 use Rattle.pt_view.specs.Views.{SameRange}
-use Rattle.pt_rule.specs.Totals.{total, prepares, has_table, has_piece, has_word, words_at}
-use Rattle.pt_rule.specs.Linked.{IsLinked, IsLinkedAt, is_in_tree}
-use Rattle.pt_rule.specs.Lawful.{Lawful, EntriesPart, HasBook, IsOnPath, IsOwnPiece, IsOwnTable, slot_of, has_child}
+use Rattle.pt_rule.specs.Totals.{total, has_table, has_piece, has_word, words_at}
+use Rattle.pt_rule.specs.Linked.{IsLinkedAt, is_in_tree}
+use Rattle.pt_rule.specs.Lawful.{Lawful, EntriesPart, HasBook, IsOnPath, IsOwnPiece, IsOwnTable, has_child}
 use Rattle.pt_rule.specs.Kinds.{Keeps, IsLowestIn, WriteTells, write, written}
-use Rattle.pt_model.proofs.Places.{entry_same, entry_else, tag_after_entry, root_after_entry, length_kept}
+use Rattle.pt_model.proofs.Places.{entry_same, root_after_entry}
 use Rattle.pt_rule.proofs.PieceFacts.{pieces_with}
 use Rattle.pt_rule.proofs.OrderedPieces.{all_with_piece, piece_in_order}
-use Rattle.pt_rule.proofs.TotalsKept.{total_same, total_set, each_set}
+use Rattle.pt_rule.proofs.TotalsKept.{total_set}
 use Rattle.pt_model.proofs.Positions.{adds_again, adds_cases, adds_kept, adds_new, all_among, among_all, among_filtered, among_passes, bit_le, sorted_adds}
 use Rattle.pt_view.proofs.Members.{all_append, all_map}
 use Rattle.pt_view.proofs.Pieces.{one_here}
-use Rattle.pt_rule.proofs.PartsKept.{SameLinks, links_same, linked_back, SameTree, spans_set, frames_same, positions_same, root_same, parents_same, books_set, paths_set, path_same, purses_same, sizes_same, busy_set, known_set}
-use Rattle.pt_rule.proofs.PositionFacts.{child_of_parent, slot_below}
-use Rattle.pt_rule.proofs.TreeFacts.{is_position, linked_there, one_frame, table_there, whole_alone, whole_tree}
+use Rattle.pt_rule.proofs.PartsKept.{InTree, SameLinks, linked_back, SameTree}
+use Rattle.pt_rule.proofs.TreeFacts.{linked_there, one_frame, table_there, whole_alone, whole_tree}
+use Rattle.pt_rule.proofs.StoredEntry as store
 use Rattle.pt_rule.proofs.FindsKept.{piece_kept, tree_found}
 use Rattle.pt_rule.proofs.PathTables.{all_levels}
 use Rattle.pt_model.proofs.Tops.{above_top, reaches_top, table_mono}
@@ -69,14 +68,8 @@ module _ (f : Layout) (n l : ℕ) (good : IsLayout f) (words : List ℕ) (views 
 
   -- The tree and the linked frames stay.
 
-  tags : (h : ℕ) → h < n → tag words' h ≡ tag words h
-  tags h lt = tag_after_entry f n words frame number (word_of f x) h lt
-
-  root : slice_index words' 0 ≡ slice_index words 0
-  root = root_after_entry f n words frame number (word_of f x)
-
   links : SameLinks n words words' views views'
-  links = links_same n words words' views views' tags (λ h. total_same (prepares h) views id v w at refl)
+  links = store.links good r id at live number (word_of f x) here may.entry.within (no_child f n l good words views r id v at live frame number x down may) w.pieces w.tables w.top w.stores
 
   -- the tables of the path are of the tree, off the spine, and meet the span
   on_tables : (q : Position) → IsAmong (off_spine v.levels v.path) q → IsOwnTable f w q × IsTrue (is_in_tree l words views q)
@@ -109,8 +102,8 @@ module _ (f : Layout) (n l : ℕ) (good : IsLayout f) (words : List ℕ) (views 
 
   tree : SameTree l words words' views views'
   tree = record {
-    root = root;
-    tree = λ q. (λ i. (is_spine l q && nat_le q.level (root i % 8)) || nat_lt 0 (total (has_table q) views')) ∙ tree_found l words views id v w at q (kept q) (found q);
+    root = root_after_entry f n words frame number (word_of f x);
+    tree = λ q. (λ i. (is_spine l q && nat_le q.level (root_after_entry f n words frame number (word_of f x) i % 8)) || nat_lt 0 (total (has_table q) views')) ∙ tree_found l words views id v w at q (kept q) (found q);
   }
 
   -- The book.
@@ -180,7 +173,7 @@ module _ (f : Layout) (n l : ℕ) (good : IsLayout f) (words : List ℕ) (views 
 
   -- another entry than the one that is written
   else_same : (h i : ℕ) → i < 2 ^ f.index → (h ≡ frame → i ≡ number → ⊥) → entry_of f n words' h i ≡ entry_of f n words h i
-  else_same h i small other = entry_else f n words frame number (word_of f x) h i may.entry.within small other
+  else_same = store.else_same good r id at live number (word_of f x) here may.entry.within (no_child f n l good words views r id v at live frame number x down may) w.pieces w.tables w.top w.stores
 
   -- where the piece stands
   at_piece : (q : Position) (i : ℕ) → pieces_at f q i (x ∷ []) ≢ 0 → (q ≡ p) × (i ≡ number)
@@ -233,44 +226,13 @@ module _ (f : Layout) (n l : ℕ) (good : IsLayout f) (words : List ℕ) (views 
         let most = bit_le (is_same q (table_of f x) && (number_of f x == i)) in
         let none : total (has_piece f q i) views ≡ 0 = (λ k. total (has_piece f (e.0 k) (e.1 k)) views) ∙ no_piece f n l good words views r id v at live frame number x down may in
         let t = piece_total q i in omega arith);
-    homes = each_set (λ u. AllByRecursion (λ y. IsTrue (is_in_tree l words views (table_of f y))) u.pieces) (λ u. AllByRecursion (λ y. IsTrue (is_in_tree l words' views' (table_of f y))) u.pieces) views id v w at
-        (all_with_piece f (λ y. IsTrue (is_in_tree l words' views' (table_of f y))) v.pieces x (home v (r.entries.homes id v at))
-        (tree.tree (table_of f x) ∙ ap (is_in_tree l words views) (sym (one_here f p number x may.here).0) ∙ linked_there f n l words views good r frame p here))
-        (λ j u ne e h. home u h) r.entries.homes;
+    homes = store.homes good r id at live number (word_of f x) here may.entry.within (no_child f n l good words views r id v at live frame number x down may) w.pieces w.tables w.top w.stores tree
+        (λ old. all_with_piece f (λ y. IsTrue (is_in_tree l words' views' (table_of f y))) v.pieces x (all_map (λ (y : Piece). InTree l words views (table_of f y)) (λ y. InTree l words' views' (table_of f y)) v.pieces (λ y t. tree.tree (table_of f y) ∙ t) old)
+        (tree.tree (table_of f x) ∙ ap (is_in_tree l words views) (sym (one_here f p number x may.here).0) ∙ linked_there f n l words views good r frame p here));
   }
-    where
-      home : (u : View) → AllByRecursion (λ y. IsTrue (is_in_tree l words views (table_of f y))) u.pieces → AllByRecursion (λ y. IsTrue (is_in_tree l words' views' (table_of f y))) u.pieces
-      home u = all_map (λ (y : Piece). IsTrue (is_in_tree l words views (table_of f y))) (λ y. IsTrue (is_in_tree l words' views' (table_of f y))) u.pieces (λ y h. tree.tree (table_of f y) ∙ h)
-
-  -- no pointer stands at the entry
-  pointers : (g h : ℕ) (q : Position) → IsLinkedAt n words views h q → q ≢ spine_position (root_level words) → IsLinkedAt n words views g (parent_of f q) →
-      entry_of f n words' g (slot_of f q) ≡ entry_of f n words g (slot_of f q)
-  pointers g h q a ne b =
-      let aligned = (is_position f n l words views good r h q a).0.aligned in
-      else_same g (slot_of f q) (slot_below f q aligned)
-      (λ e d.
-      let up : parent_of f q ≡ p = sym b.at ∙ ap (λ (z : ℕ). placed_at (tag words z)) e ∙ here.at in
-      let child : child_at f p number ≡ q = (λ k. child_at f (sym up k) (sym d k)) ∙ child_of_parent f q aligned in
-      let high : 0 < p.level = (let level : q.level + 1 ≡ p.level = ap (λ (z : Position). z.level) up in omega arith) in
-      false≢true (sym (no_child f n l good words views r id v at live frame number x down may)
-      ∙ and_from (nat_lt 0 p.level) _ (lt-ltb 0 p.level high) (ap (is_in_tree l words views) child ∙ linked_there f n l words views good r h q a)))
 
   lawful : Lawful f n l words' views'
-  lawful = record {
-    spans = spans_set f views id v w at same r.spans;
-    frames = frames_same f n words words' views id v w at links tags refl refl refl
-        (λ h i lt unlinked small. else_same h i small (λ e d. unlinked (subst (IsLinked n words views) (sym e) here.is_linked))) r.frames;
-    positions = positions_same f n l words words' views views' links tree r.positions;
-    root = root_same n l words words' views id v w at links root refl raised.0 raised.2 r.root;
-    parents = parents_same f n l words words' views views' links tree pointers r.parents;
-    entries = entries;
-    books = books_set f views id v w at (λ some_page. book) r.books;
-    paths = paths_set f n words words' views id v w at links (path_same f n words words' views views' v w links same refl (r.paths id v at)) r.paths;
-    purses = purses_same f n words words' views id v w at tags refl refl r.frames r.purses;
-    sizes = sizes_same f n l words words' views id v w at live same (length_kept words (entry_place f n frame number) (word_of f x)) r.sizes;
-    busy = busy_set f n words words' views id v w at (λ h lt some_tag e. some_tag (sym (tags h lt) ∙ e)) (λ whole h lt b e. r.busy id v at whole h lt b (sym (tags h lt) ∙ e)) r.busy;
-    known = known_set f l words words' views id v w at (λ q e. tree.tree q ∙ e) (λ q m. let k = r.known id v at q m in (tree.tree q ∙ k.0, k.1)) r.known;
-  }
+  lawful = store.stored good r id at live number (word_of f x) here may.entry.within (no_child f n l good words views r id v at live frame number x down may) w.pieces w.tables w.top w.stores tree entries book raised.0 raised.2
 
   -- the view of the whole space has the tables of its path already, and its top is the root's level
   tells : WriteTells f v x (entry_of f n words frame number)
