@@ -1,12 +1,12 @@
 -- An install that was won: the prepared frame is linked at the child of a zero entry, which is then its pointer.
-use Rattle.std.proofs.Common.{◌≡◌, ◌≢◌, ◌⊎◌, inl, inr, ℕ, Bool, true, false, ◌+◌, ◌-◌, ◌/◌, ◌%◌, ◌^◌, ◌<◌, ◌≤◌, List, set, sym, refl, ap, ◌∙◌, subst, arith, ⊎_elim}
+use Rattle.std.proofs.Common.{◌≡◌, ◌≢◌, ◌⊎◌, inl, inr, ℕ, Bool, true, false, ◌+◌, ◌-◌, ◌%◌, ◌^◌, ◌<◌, List, set, sym, refl, ap, ◌∙◌, subst, arith, ⊎_elim}
 use Rattle.std.specs.Prelude.{IsTrue, nat_le, nat_lt, ◌&&◌, ◌||◌, ◌==◌, if◌then◌else◌, slice_index, slice_set, Option, None, Some}
 use Rattle.std.proofs.lemmas.Bool.{and_from, or_left, or_right, le-leb, lt-ltb, false≢true, false_from_ne_true}
-use mathlib.Core.Option.{some, some-injective}
+use mathlib.Core.Option.{some}
 use mathlib.Core.Logic.{dite}
-use native.Mathlib.Decide.{ℕ_discrete, dec_le}
+use native.Mathlib.Decide.{dec_le}
 use lib.ListN.{get_elem?}
-use Rattle.atomic_table.proofs.Lists.{set_here, set_else}
+use Rattle.atomic_table.proofs.Lists.{set_here}
 use Rattle.pt_model.specs.declared.position.Position.{Position}
 use Rattle.pt_model.specs.Layout.{Layout}
 use Rattle.pt_model.specs.Tables.{IsPosition, child_at, end_of_table, is_same, is_spine, parent_of, spine_position}
@@ -23,10 +23,10 @@ use Rattle.pt_rule.specs.Tags.{is_placed}
 use Rattle.pt_rule.specs.Linked.{IsLinked, IsLinkedAt, is_in_tree}
 use Rattle.pt_rule.specs.Lawful.{Lawful, BooksPart, EntriesPart, FramesPart, IsOnPath, IsOwnPiece, IsOwnTable, ParentsPart, PathsPart, RootPart, has_child, slot_of}
 use Rattle.pt_model.proofs.Places.{entry_else, entry_same, length_kept, root_after_entry, tag_after_entry}
-use Rattle.pt_rule.proofs.TotalsKept.{at_inside, each_set, total_at, total_only, total_same, total_two}
+use Rattle.pt_rule.proofs.TotalsKept.{at_inside, total_at, total_only, total_same, total_two}
 use Rattle.pt_model.proofs.Positions.{among_cases, bit_le, bit_true, is_same_self, same_cases}
 use Rattle.pt_view.proofs.Members.{all_map}
-use Rattle.pt_rule.proofs.PartsKept.{InTree, prepared_within, prepares_here, books_set, known_set}
+use Rattle.pt_rule.proofs.PartsKept.{InTree, root_moved, prepared_within, prepares_here, books_set, known_set}
 use Rattle.pt_rule.proofs.PositionFacts.{child_of_parent, parent_of_child, slot_below, slot_of_child}
 use Rattle.pt_rule.proofs.PieceFacts.{word_some}
 use Rattle.pt_rule.proofs.TreeFacts.{an_empty, a_piece, a_child, entry_is, is_position, linked_there, level_low, no_words_of, one_frame, piece_home, prepared_tag, table_there, there_position}
@@ -176,20 +176,7 @@ module _ (f : Layout) (n l : ℕ) (good : IsLayout f) (d : WordsDiffer f) (words
       ∙ r.frames.cleared h i lt (λ b. unlinked (link.to h b)) small ∙ sym (bridges_kept h i))
 
   root_won : RootPart n words' views'
-  root_won = record {
-    is_linked = subst (λ (k : ℕ). IsLinkedAt n words' views' (k / 8) (spine_position (k % 8))) (sym root_kept)
-        (link.to_at (root_frame words) (spine_position (root_level words)) r.root.is_linked);
-    greatest = each_set (λ u. u.top ≤ root_level words) (λ u. u.top ≤ root_level words') views id v w at
-        (let a = r.root.greatest id v at in omega (arith, a, level_kept)) (λ j u ne here b. omega (arith, b, level_kept)) r.root.greatest;
-    reached = reached_still r.root.reached;
-  }
-    where
-      reached_still : ((j : ℕ) × (u : View) × (get_elem? views j ≡ some u) × (0 < u.count) × (u.top ≡ root_level words)) →
-          (j : ℕ) × (u : View) × (get_elem? views' j ≡ some u) × (0 < u.count) × (u.top ≡ root_level words')
-      reached_still (j, u, here, some_page, is) = dite (ℕ_discrete j id)
-          (λ e. let same : u ≡ v = some-injective u v (sym here ∙ ap (get_elem? views) e ∙ at) in
-          (id, w, set_here views id w (at_inside views id v at), live, sym (ap (λ (z : View). z.top) same) ∙ is ∙ sym level_kept))
-          (λ ne. (j, u, set_else views id j w ne ∙ here, some_page, is ∙ sym level_kept))
+  root_won = root_moved n l words words' views id v w at (link.to_at (root_frame words) (spine_position (root_level words))) root_kept refl (omega arith) (r.root.greatest id v at) r.root
 
   under_place : parent_of f child ≡ p
   under_place = parent_of_child f p number high s.within place.aligned

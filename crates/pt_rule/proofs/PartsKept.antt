@@ -204,13 +204,13 @@ positions_same f n l words words' views views' links tree part = record {
 }
 
 -- 4. Root: where word 0 and the linked frames stay, and the view's top is raised up to the root's level at most.
-pub root_same : (n l : ℕ) (words words' : List ℕ) (views : List View) (id : ℕ) (v w : View) → get_elem? views id ≡ some v →
-    SameLinks n words words' views (set views id w) → slice_index words' 0 ≡ slice_index words 0 → w.count ≡ v.count → v.top ≤ w.top → w.top ≤ root_level words →
+pub root_moved : (n l : ℕ) (words words' : List ℕ) (views : List View) (id : ℕ) (v w : View) → get_elem? views id ≡ some v →
+    (IsLinkedAt n words views (root_frame words) (spine_position (root_level words)) → IsLinkedAt n words' (set views id w) (root_frame words) (spine_position (root_level words))) → slice_index words' 0 ≡ slice_index words 0 → w.count ≡ v.count → v.top ≤ w.top → w.top ≤ root_level words →
     RootPart n words views → RootPart n words' (set views id w)
-root_same n l words words' views id v w at links root count raised low part =
+root_moved n l words words' views id v w at kept root count raised low part =
     let views' : List View = set views id w in
     let level : root_level words' ≡ root_level words = ap (λ (r : ℕ). r % 8) root in
-    let was = linked_to n words words' views views' links (root_frame words) (spine_position (root_level words)) part.is_linked in
+    let was = kept part.is_linked in
     record {
       is_linked = subst (λ (r : ℕ). IsLinkedAt n words' views' (r / 8) (spine_position (r % 8))) (sym root) was;
       greatest = each_set (λ u. u.top ≤ root_level words) (λ u. u.top ≤ root_level words') views id v w at (omega arith) (λ j u ne here h. omega arith) part.greatest;
@@ -225,6 +225,12 @@ root_same n l words words' views id v w at links root count raised low part =
         let level : root_level words' ≡ root_level words = ap (λ (r : ℕ). r % 8) root in
         (id, w, set_here views id w (at_inside views id v at), omega arith, omega arith))
         (λ ne. (j, u, set_else views id j w ne ∙ here, live, is ∙ sym (ap (λ (r : ℕ). r % 8) root)))
+
+pub root_same : (n l : ℕ) (words words' : List ℕ) (views : List View) (id : ℕ) (v w : View) → get_elem? views id ≡ some v →
+    SameLinks n words words' views (set views id w) → slice_index words' 0 ≡ slice_index words 0 → w.count ≡ v.count → v.top ≤ w.top → w.top ≤ root_level words →
+    RootPart n words views → RootPart n words' (set views id w)
+root_same n l words words' views id v w at links =
+    root_moved n l words words' views id v w at (linked_to n words words' views (set views id w) links (root_frame words) (spine_position (root_level words)))
 
 -- 5. Parents: where moreover the pointers stay.
 pub parents_same : (f : Layout) (n l : ℕ) (words words' : List ℕ) (views views' : List View) → SameLinks n words words' views views' → SameTree l words words' views views' →

@@ -1,9 +1,9 @@
 -- The law of a store of zero over a table: the child at the entry is of the tree no more, and its frame is prepared.
-use Rattle.std.proofs.Common.{◌≡◌, ◌≢◌, ◌⊎◌, inl, inr, ℕ, Bool, true, false, ◌+◌, ◌/◌, ◌%◌, ◌^◌, ◌<◌, ◌≤◌, List, set, sym, refl, ap, ◌∙◌, subst, arith, ⊎_elim, ne_eqb, eq-eqb}
+use Rattle.std.proofs.Common.{◌≡◌, ◌≢◌, ◌⊎◌, inl, inr, ℕ, Bool, true, false, ◌+◌, ◌%◌, ◌^◌, ◌<◌, ◌≤◌, List, set, sym, refl, ap, ◌∙◌, subst, arith, ⊎_elim, ne_eqb, eq-eqb}
 use Rattle.std.specs.Prelude.{IsTrue, nat_le, nat_lt, ◌&&◌, ◌||◌, ◌==◌, if◌then◌else◌, slice_index, slice_set, Option, None, Some}
 use Rattle.std.specs.List.{AllByRecursion}
 use Rattle.std.proofs.lemmas.Bool.{and_parts, and_from, or_cases, le-leb, lt-ltb, ltb-true, false≢true, false_from_ne_true}
-use mathlib.Core.Option.{some, some-injective}
+use mathlib.Core.Option.{some}
 use mathlib.Core.Logic.{dite}
 use native.Mathlib.Decide.{ℕ_discrete, dec_le}
 use lib.ListN.{get_elem?}
@@ -31,7 +31,7 @@ use Rattle.pt_rule.proofs.TotalsKept.{at_inside, each_set, total_at, total_only,
 use Rattle.pt_model.proofs.Positions.{bit_false, bit_true, is_same_self, same_cases}
 use Rattle.pt_view.proofs.Members.{all_map}
 use Rattle.pt_view.proofs.Paths.{all_front}
-use Rattle.pt_rule.proofs.PartsKept.{InTree, prepared_moved, prepared_within, spans_set, books_set, busy_set, purses_same, sizes_same}
+use Rattle.pt_rule.proofs.PartsKept.{InTree, root_moved, prepared_moved, prepared_within, spans_set, books_set, busy_set, purses_same, sizes_same}
 use Rattle.pt_rule.proofs.PositionFacts.{child_of_parent, parent_of_child, slot_below, slot_of_child}
 use Rattle.pt_rule.proofs.TagFacts.{no_bridge}
 use Rattle.pt_rule.proofs.TreeFacts.{all_both, linked_there, level_low, no_words_of, one_frame, pointer_at, table_there, there_position}
@@ -272,20 +272,7 @@ module _ (f : Layout) (n l : ℕ) (good : IsLayout f) (words : List ℕ) (views 
   }
 
   root_cut : RootPart n words' views'
-  root_cut = record {
-    is_linked = subst (λ (k : ℕ). IsLinkedAt n words' views' (k / 8) (spine_position (k % 8))) (sym root_kept)
-        (to_linked_at (root_frame words) (spine_position (root_level words)) (λ e. not_root (sym e)) r.root.is_linked);
-    greatest = each_set (λ u. u.top ≤ root_level words) (λ u. u.top ≤ root_level words') views id v w at
-        (let a = r.root.greatest id v at in omega (arith, a, level_kept)) (λ j u ne here b. omega (arith, b, level_kept)) r.root.greatest;
-    reached = reached_still r.root.reached;
-  }
-    where
-      reached_still : ((j : ℕ) × (u : View) × (get_elem? views j ≡ some u) × (0 < u.count) × (u.top ≡ root_level words)) →
-          (j : ℕ) × (u : View) × (get_elem? views' j ≡ some u) × (0 < u.count) × (u.top ≡ root_level words')
-      reached_still (j, u, here, some_page, is) = dite (ℕ_discrete j id)
-          (λ e. let as_v : u ≡ v = some-injective u v (sym here ∙ ap (get_elem? views) e ∙ at) in
-          (id, w, w_at, live, sym (ap (λ (z : View). z.top) as_v) ∙ is ∙ sym level_kept))
-          (λ ne. (j, u, set_else views id j w ne ∙ here, some_page, is ∙ sym level_kept))
+  root_cut = root_moved n l words words' views id v w at (to_linked_at (root_frame words) (spine_position (root_level words)) (λ e. not_root (sym e))) root_kept refl (omega arith) (r.root.greatest id v at) r.root
 
   parents_cut : ParentsPart f n l words' views'
   parents_cut = record {
