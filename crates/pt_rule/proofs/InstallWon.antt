@@ -26,7 +26,7 @@ use Rattle.pt_model.proofs.Places.{entry_else, entry_same, length_kept, root_aft
 use Rattle.pt_rule.proofs.TotalsKept.{at_inside, total_at, total_only, total_same, total_two}
 use Rattle.pt_model.proofs.Positions.{among_cases, bit_le, bit_true, is_same_self, same_cases}
 use Rattle.pt_view.proofs.Members.{all_map}
-use Rattle.pt_rule.proofs.PartsKept.{InTree, root_moved, prepared_within, prepares_here, books_set, known_set}
+use Rattle.pt_rule.proofs.PartsKept.{together, InTree, root_moved, prepared_within, prepares_here, books_set, known_set}
 use Rattle.pt_rule.proofs.PositionFacts.{child_of_parent, parent_of_child, slot_below, slot_of_child}
 use Rattle.pt_rule.proofs.PieceFacts.{word_some}
 use Rattle.pt_rule.proofs.TreeFacts.{an_empty, a_piece, a_child, entry_is, is_position, linked_there, level_low, no_words_of, one_frame, piece_home, prepared_tag, table_there, there_position}
@@ -284,7 +284,7 @@ module _ (f : Layout) (n l : ℕ) (good : IsLayout f) (d : WordsDiffer f) (words
       old.begins old.descends (record { at = link.here; near = inr meets }) (record { number = number; within = s.within; high = high; is = refl }))
 
   pub install_won : Lawful f n l words' views'
-  install_won = linking.linked_won good words' id r at prepared w.top w.tables w.known w.path tags_kept live (length_kept words (entry_place f n frame number) word) frames_won (linking.positions_won good words' id r at prepared w.top w.tables w.known w.path tags_kept not_there tree_child to_tree back_tree) root_won parents_won entries_won books_won paths_won
+  install_won = together f n l words words' views id v w r at live range_kept refl refl refl tags_kept (length_kept words (entry_place f n frame number) word) frames_won (linking.positions_won good words' id r at prepared w.top w.tables w.known w.path tags_kept not_there tree_child to_tree back_tree) root_won parents_won entries_won books_won paths_won
       (known_set f l words words' views id v w at to_tree
       (λ q b. ⊎_elim
       (λ (e : q ≡ child). (subst (InTree l words' views') (sym e) tree_child, inr (subst (λ (y : Position). IsTrue (meets_span v y.base (end_of_table f y))) (sym e) meets)))

@@ -1,5 +1,5 @@
 -- A step that links the frame which a view prepares: the tags stay as they are, and the tree has one position more.
-use Rattle.std.proofs.Common.{◌≡◌, ◌≢◌, ◌⊎◌, inl, inr, ℕ, true, false, ◌+◌, ◌^◌, ◌<◌, ◌≤◌, List, length, set, sym, refl, ap, ◌∙◌, subst, arith, ⊎_elim, ne_eqb}
+use Rattle.std.proofs.Common.{◌≡◌, ◌≢◌, ◌⊎◌, inl, inr, ℕ, true, false, ◌+◌, ◌^◌, ◌<◌, ◌≤◌, List, set, sym, refl, ap, ◌∙◌, subst, arith, ⊎_elim, ne_eqb}
 use Rattle.std.specs.Prelude.{nat_lt, ◌==◌, Option, None, Some}
 use Rattle.std.specs.List.{AllByRecursion}
 use Rattle.std.proofs.lemmas.Bool.{and_parts, and_from, ltb-true, false≢true, false_from_ne_true}
@@ -17,15 +17,14 @@ use Rattle.pt_view.specs.declared.view.Node.{Node}
 use Rattle.pt_view.specs.declared.view.Prepared.{Prepared}
 use Rattle.pt_model.specs.Sets.{one_if}
 use Rattle.pt_view.specs.Pieces.{table_of}
-use Rattle.pt_view.specs.Views.{SameRange}
 use Rattle.pt_rule.specs.Totals.{total, has_bridge, has_piece, has_word, holds, is_prepared, prepares}
 use Rattle.pt_rule.specs.Tags.{IsTag, is_held, is_placed}
 use Rattle.pt_rule.specs.Linked.{IsLinked, IsLinkedAt}
-use Rattle.pt_rule.specs.Lawful.{KnownPart, Lawful, BooksPart, EntriesPart, FramesPart, HasBridge, HasPath, IsBridged, IsOnPath, IsPreparedAt, ParentsPart, PathsPart, PositionsPart, RootPart, has_child}
+use Rattle.pt_rule.specs.Lawful.{Lawful, EntriesPart, FramesPart, HasBridge, HasPath, IsBridged, IsOnPath, IsPreparedAt, PathsPart, PositionsPart, has_child}
 use Rattle.pt_rule.proofs.TotalsKept.{each_set, total_set, total_same}
 use Rattle.pt_model.proofs.Positions.{bit_false, bit_le}
 use Rattle.pt_view.proofs.Members.{all_map}
-use Rattle.pt_rule.proofs.PartsKept.{InTree, prepared_moved, prepared_within, spans_set, busy_set, purses_same, sizes_same}
+use Rattle.pt_rule.proofs.PartsKept.{InTree, prepared_moved, prepared_within}
 use Rattle.pt_rule.proofs.TagFacts.{IsPreparedBy, placed_is, prepared_by, prepared_unlinked}
 use Rattle.pt_rule.proofs.TreeFacts.{piece_home, placed_back, prepared_tag}
 
@@ -203,24 +202,3 @@ module _ {f : Layout} {n l : ℕ} (good : IsLayout f) {words : List ℕ} (words'
       let b : (nat_lt 0 q.level ≡ true) × InTree l words views (child_at f q i) = and_parts (nat_lt 0 q.level) _ yes in
       false≢true (sym childless ∙ and_from (nat_lt 0 q.level) _ b.0 (to_tree (child_at f q i) b.1))))
       ∙ sym (words_kept q i)
-
-  -- the parts together
-  pub linked_won : 0 < v.count → length words' ≡ length words → FramesPart f n words' views' → PositionsPart f n l words' views' → RootPart n words' views' → ParentsPart f n l words' views' →
-      EntriesPart f n l words' views' → BooksPart f views' → PathsPart f n words' views' → KnownPart f l words' views' → Lawful f n l words' views'
-  linked_won live long frames positions root parents entries books paths known = record {
-    spans = spans_set f views id v w at range_kept r.spans;
-    frames = frames;
-    positions = positions;
-    root = root;
-    parents = parents;
-    entries = entries;
-    books = books;
-    paths = paths;
-    purses = purses_same f n words words' views id v w at tags_kept refl refl r.frames r.purses;
-    sizes = sizes_same f n l words words' views id v w at live range_kept long r.sizes;
-    busy = busy_set f n words words' views id v w at (λ h lt b e. b (sym (tags_kept h lt) ∙ e)) (λ all h lt b e. r.busy id v at all h lt b (sym (tags_kept h lt) ∙ e)) r.busy;
-    known = known;
-  }
-    where
-      range_kept : SameRange v w
-      range_kept = record { frames = refl; levels = refl; first = refl; count = refl }

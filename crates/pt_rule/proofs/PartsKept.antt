@@ -24,7 +24,7 @@ use Rattle.pt_view.specs.Views.{spent, SameRange, SameBook}
 use Rattle.pt_rule.specs.Totals.{total, covers, holds, prepares, has_table, has_piece, has_word, has_bridge, is_prepared, bridge_in, words_at}
 use Rattle.pt_rule.specs.Tags.{IsEnd, IsTag, Chained, is_held, is_placed}
 use Rattle.pt_rule.specs.Linked.{IsLinked, IsLinkedAt, is_in_tree}
-use Rattle.pt_rule.specs.Lawful.{SpansPart, FramesPart, PositionsPart, RootPart, ParentsPart, EntriesPart, BooksPart, PathsPart, PursesPart, SizesPart, BusyPart, KnownPart, IsPreparedAt, IsBridged, HasBridge, HasBook, IsOwnPiece, IsOwnTable, HasPath, IsOnPath, BeginsOnSpine, Descends, slot_of, PiecesInOrder}
+use Rattle.pt_rule.specs.Lawful.{Lawful, SpansPart, FramesPart, PositionsPart, RootPart, ParentsPart, EntriesPart, BooksPart, PathsPart, PursesPart, SizesPart, BusyPart, KnownPart, IsPreparedAt, IsBridged, HasBridge, HasBook, IsOwnPiece, IsOwnTable, HasPath, IsOnPath, BeginsOnSpine, Descends, slot_of, PiecesInOrder}
 use Rattle.pt_model.proofs.Places.{tag_same, tag_else, entry_after_tag}
 use Rattle.pt_rule.proofs.TotalsKept.{total_set, total_at, total_same, total_only, at_inside, each_set}
 use Rattle.pt_model.proofs.Positions.{bit_true}
@@ -372,3 +372,24 @@ known_set f l words words' views id v w at tree mine part =
     each_set (λ u. (p : Position) → IsAmong u.known p → IsTrue (is_in_tree l words views p) × (IsTrue (is_spine u.levels p) ⊎ IsTrue (meets_span u p.base (end_of_table f p))))
     (λ u. (p : Position) → IsAmong u.known p → IsTrue (is_in_tree l words' (set views id w) p) × (IsTrue (is_spine u.levels p) ⊎ IsTrue (meets_span u p.base (end_of_table f p))))
     views id v w at mine (λ j u ne here h p a. let b = h p a in (tree p b.0, b.1)) part
+
+-- The parts together, where a step changes no tag and of one view no purse: the other parts are given.
+pub together : (f : Layout) (n l : ℕ) (words words' : List ℕ) (views : List View) (id : ℕ) (v w : View) → Lawful f n l words views → get_elem? views id ≡ some v → 0 < v.count → SameRange v w →
+    w.purse ≡ v.purse → w.end ≡ v.end → w.busy ≡ v.busy → ((h : ℕ) → h < n → tag words' h ≡ tag words h) → length words' ≡ length words → (let views' : List View = set views id w in
+    FramesPart f n words' views' → PositionsPart f n l words' views' → RootPart n words' views' → ParentsPart f n l words' views' → EntriesPart f n l words' views' → BooksPart f views' →
+    PathsPart f n words' views' → KnownPart f l words' views' → Lawful f n l words' views')
+together f n l words words' views id v w r at live range purse end busy tags long frames positions root parents entries books paths known = record {
+  spans = spans_set f views id v w at range r.spans;
+  frames = frames;
+  positions = positions;
+  root = root;
+  parents = parents;
+  entries = entries;
+  books = books;
+  paths = paths;
+  purses = purses_same f n words words' views id v w at tags purse end r.frames r.purses;
+  sizes = sizes_same f n l words words' views id v w at live range long r.sizes;
+  busy = busy_set f n words words' views id v w at (λ h lt b e. b (sym (tags h lt) ∙ e))
+      (λ all h lt b e. r.busy id v at (sym range.count ∙ all) h lt (subst (λ (xs : List ℕ). IsIn xs h) busy b) (sym (tags h lt) ∙ e)) r.busy;
+  known = known;
+}

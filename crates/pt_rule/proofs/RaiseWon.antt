@@ -28,7 +28,7 @@ use Rattle.pt_model.proofs.Places.{entry_after_root, length_kept, root_same, tag
 use Rattle.pt_rule.proofs.TotalsKept.{at_inside, each_set, total_same}
 use Rattle.pt_model.proofs.Positions.{among_append, among_levels, is_same_self, same_cases, same_position}
 use Rattle.pt_view.proofs.Members.{all_map}
-use Rattle.pt_rule.proofs.PartsKept.{InTree, books_set, known_set}
+use Rattle.pt_rule.proofs.PartsKept.{together, InTree, books_set, known_set}
 use Rattle.pt_rule.proofs.TagFacts.{IsPreparedBy, prepared_by}
 use Rattle.pt_rule.proofs.TreeFacts.{level_low, linked_there, no_words_of, one_frame, piece_home, prepared_tag}
 use Rattle.pt_rule.proofs.FindsKept.{piece_kept, table_kept}
@@ -324,5 +324,5 @@ module _ (f : Layout) (n l : ℕ) (good : IsLayout f) (words : List ℕ) (views 
         (among_append p (map spine_position (levels_between (starting_top v.levels) (level + 1))) v.known a)
 
     pub raise_won : Lawful f n l words' views'
-    raise_won = linking.linked_won good words' id r at prepared w.top w.tables w.known w.path tags_kept live (length_kept words 0 word) frames_won (linking.positions_won good words' id r at prepared w.top w.tables w.known w.path tags_kept not_there tree_child to_tree back_tree) root_won parents_won entries_won books_won paths_won
+    raise_won = together f n l words words' views id v w r at live range_kept refl refl refl tags_kept (length_kept words 0 word) frames_won (linking.positions_won good words' id r at prepared w.top w.tables w.known w.path tags_kept not_there tree_child to_tree back_tree) root_won parents_won entries_won books_won paths_won
         (known_set f l words words' views id v w at to_tree spine_known r.known)

@@ -21,7 +21,7 @@ use Rattle.pt_rule.specs.Lawful.{Lawful, EntriesPart, HasBook, slot_of, has_chil
 use Rattle.pt_model.proofs.Places.{entry_else, tag_after_entry, root_after_entry, length_kept}
 use Rattle.pt_rule.proofs.TotalsKept.{total_same, each_set}
 use Rattle.pt_view.proofs.Members.{all_map}
-use Rattle.pt_rule.proofs.PartsKept.{InTree, SameLinks, links_same, SameTree, spans_set, frames_same, positions_same, root_same, parents_same, books_set, paths_set, path_same, purses_same, sizes_same, busy_set, known_set}
+use Rattle.pt_rule.proofs.PartsKept.{together, InTree, SameLinks, links_same, SameTree, frames_same, positions_same, root_same, parents_same, books_set, paths_set, path_same, known_set}
 use Rattle.pt_rule.proofs.PositionFacts.{child_of_parent, slot_below}
 use Rattle.pt_rule.proofs.TreeFacts.{is_position, linked_there}
 
@@ -73,18 +73,11 @@ module _ {f : Layout} {n l : ℕ} (good : IsLayout f) {words : List ℕ} {views 
       false≢true (sym no_child ∙ and_from (nat_lt 0 p.level) _ (lt-ltb 0 p.level high) (ap (is_in_tree l words views) child ∙ linked_there f n l words views good r h q a)))
 
   pub stored : SameTree l words words' views views' → EntriesPart f n l words' views' → HasBook f w → v.top ≤ top → top ≤ root_level words → Lawful f n l words' views'
-  stored tree entries book raised low = record {
-    spans = spans_set f views id v w at same r.spans;
-    frames = frames_same f n words words' views id v w at links tags refl refl refl
-        (λ h i lt unlinked small. else_same h i small (λ e d. unlinked (subst (IsLinked n words views) (sym e) here.is_linked))) r.frames;
-    positions = positions_same f n l words words' views views' links tree r.positions;
-    root = root_same n l words words' views id v w at links root refl raised low r.root;
-    parents = parents_same f n l words words' views views' links tree pointers r.parents;
-    entries = entries;
-    books = books_set f views id v w at (λ some_page. book) r.books;
-    paths = paths_set f n words words' views id v w at links (path_same f n words words' views views' v w links same refl (r.paths id v at)) r.paths;
-    purses = purses_same f n words words' views id v w at tags refl refl r.frames r.purses;
-    sizes = sizes_same f n l words words' views id v w at live same (length_kept words (entry_place f n frame number) word) r.sizes;
-    busy = busy_set f n words words' views id v w at (λ h lt some_tag e. some_tag (sym (tags h lt) ∙ e)) (λ whole h lt b e. r.busy id v at whole h lt b (sym (tags h lt) ∙ e)) r.busy;
-    known = known_set f l words words' views id v w at (λ q e. tree.tree q ∙ e) (λ q m. let k = r.known id v at q m in (tree.tree q ∙ k.0, k.1)) r.known;
-  }
+  stored tree entries book raised low = together f n l words words' views id v w r at live same refl refl refl tags (length_kept words (entry_place f n frame number) word)
+      (frames_same f n words words' views id v w at links tags refl refl refl
+      (λ h i lt unlinked small. else_same h i small (λ e d. unlinked (subst (IsLinked n words views) (sym e) here.is_linked))) r.frames)
+      (positions_same f n l words words' views views' links tree r.positions)
+      (root_same n l words words' views id v w at links root refl raised low r.root)
+      (parents_same f n l words words' views views' links tree pointers r.parents) entries (books_set f views id v w at (λ some_page. book) r.books)
+      (paths_set f n words words' views id v w at links (path_same f n words words' views views' v w links same refl (r.paths id v at)) r.paths)
+      (known_set f l words words' views id v w at (λ q e. tree.tree q ∙ e) (λ q m. let k = r.known id v at q m in (tree.tree q ∙ k.0, k.1)) r.known)

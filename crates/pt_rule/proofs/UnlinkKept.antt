@@ -31,7 +31,7 @@ use Rattle.pt_rule.proofs.TotalsKept.{at_inside, each_set, total_at, total_only,
 use Rattle.pt_model.proofs.Positions.{bit_false, bit_true, is_same_self, same_cases}
 use Rattle.pt_view.proofs.Members.{all_map}
 use Rattle.pt_view.proofs.Paths.{all_front}
-use Rattle.pt_rule.proofs.PartsKept.{InTree, root_moved, prepared_moved, prepared_within, spans_set, books_set, busy_set, purses_same, sizes_same}
+use Rattle.pt_rule.proofs.PartsKept.{together, InTree, root_moved, prepared_moved, prepared_within, books_set}
 use Rattle.pt_rule.proofs.PositionFacts.{child_of_parent, parent_of_child, slot_below, slot_of_child}
 use Rattle.pt_rule.proofs.TagFacts.{no_bridge}
 use Rattle.pt_rule.proofs.TreeFacts.{all_both, linked_there, level_low, no_words_of, one_frame, pointer_at, table_there, there_position}
@@ -416,20 +416,8 @@ module _ (f : Layout) (n l : ℕ) (good : IsLayout f) (words : List ℕ) (views 
       (λ j u ne here b. known_else j u ne here b) r.known
 
   lawful : Lawful f n l words' views'
-  lawful = record {
-    spans = spans_set f views id v w at same r.spans;
-    frames = frames_cut;
-    positions = positions_cut;
-    root = root_cut;
-    parents = parents_cut;
-    entries = entries_cut;
-    books = books_cut;
-    paths = paths_cut;
-    purses = purses_same f n words words' views id v w at tags_kept refl refl r.frames r.purses;
-    sizes = sizes_same f n l words words' views id v w at live same (length_kept words (entry_place f n frame number) 0) r.sizes;
-    busy = busy_set f n words words' views id v w at (λ h lt b e. b (sym (tags_kept h lt) ∙ e)) (λ all h lt b e. r.busy id v at all h lt b (sym (tags_kept h lt) ∙ e)) r.busy;
-    known = known_cut;
-  }
+  lawful = together f n l words words' views id v w r at live same refl refl refl tags_kept (length_kept words (entry_place f n frame number) 0) frames_cut positions_cut root_cut parents_cut
+      entries_cut books_cut paths_cut known_cut
 
   tells : UnlinkTells f n v (entry_of f n words frame number)
   tells =
