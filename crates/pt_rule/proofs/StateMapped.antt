@@ -7,7 +7,7 @@ use mathlib.Core.Option.{some-injective, some-ne-none}
 use Rattle.pt_model.specs.declared.position.Position.{Position}
 use Rattle.pt_model.specs.declared.block.Prot.TheVariants.{Read}
 use Rattle.pt_model.specs.Layout.{Layout, nothing, page, table, nowhere}
-use Rattle.pt_model.specs.Tables.{end_of_table, is_same, is_spine, parent_of, spine_position, starting_top}
+use Rattle.pt_model.specs.Tables.{IsPosition, end_of_table, is_same, is_spine, parent_of, spine_position, starting_top}
 use Rattle.pt_model.specs.Words.{tag, placed_at, entry_of, frame_address, root_level}
 use Rattle.pt_view.specs.declared.view.View.{View}
 use Rattle.pt_view.specs.declared.view.Piece.{Piece}
@@ -83,6 +83,12 @@ sizes_are words views long live dead = record {
   live = live;
   dead = dead;
 }
+
+pub root_place : IsPosition small (at 1 0)
+root_place = record { a_level = omega arith; a_page = omega arith; aligned = refl }
+
+pub table_place : IsPosition small (at 0 4)
+table_place = record { a_level = omega arith; a_page = omega arith; aligned = refl }
 
 -- what holds of both positions of two tables holds of each known one
 pub two_known : (P : Position → Type 0) → P (at 0 4) → P (at 1 0) → (p : Position) → IsAmong (at 0 4 ∷ at 1 0 ∷ []) p → P p
@@ -195,7 +201,7 @@ pub new_lawful : Lawful small 4 2 new_words new_views
 new_lawful = record {
   spans = λ page. grind (arith, nat_tests);
   frames = record {
-    tags = four (λ g. IsTag small (tag new_words g)) (IsTag.placed (spine_position 1) (record { a_level = omega arith; a_page = omega arith; aligned = refl }) refl) (IsTag.held (Some 2) refl) (IsTag.held (Some 3) refl) (IsTag.held None refl);
+    tags = four (λ g. IsTag small (tag new_words g)) (IsTag.placed (at 1 0) root_place refl) (IsTag.held (Some 2) refl) (IsTag.held (Some 3) refl) (IsTag.held None refl);
     held = four (λ g. total (holds g) new_views ≡ one_if (is_held (tag new_words g))) refl refl refl refl;
     prepared = four (λ g. total (prepares g) new_views ≤ one_if (is_placed (tag new_words g))) (omega arith) (omega arith) (omega arith) (omega arith);
     none_held = λ g h. grind (arith, nat_tests);
@@ -283,8 +289,7 @@ pub mapped_lawful : Lawful small 4 2 mapped_words mapped_views
 mapped_lawful = record {
   spans = λ page. grind (arith, nat_tests);
   frames = record {
-    tags = four (λ g. IsTag small (tag mapped_words g)) (IsTag.placed (at 1 0) (record { a_level = omega arith; a_page = omega arith; aligned = refl }) refl)
-        (IsTag.placed (at 0 4) (record { a_level = omega arith; a_page = omega arith; aligned = refl }) refl) (IsTag.held None refl) (IsTag.free refl);
+    tags = four (λ g. IsTag small (tag mapped_words g)) (IsTag.placed (at 1 0) root_place refl) (IsTag.placed (at 0 4) table_place refl) (IsTag.held None refl) (IsTag.free refl);
     held = four (λ g. total (holds g) mapped_views ≡ one_if (is_held (tag mapped_words g))) refl refl refl refl;
     prepared = four (λ g. total (prepares g) mapped_views ≤ one_if (is_placed (tag mapped_words g))) (omega arith) (omega arith) (omega arith) (omega arith);
     none_held = λ g h. grind (arith, nat_tests);
@@ -315,7 +320,7 @@ mapped_lawful = record {
       },
       tt,
     );
-    tables = (record { a_position = record { a_level = omega arith; a_page = omega arith; aligned = refl }; off_spine = refl; meets = refl }, tt);
+    tables = (record { a_position = table_place; off_spine = refl; meets = refl }, tt);
     in_order = ((λ p m. absurd (omega arith)), tt);
     pieces_in_order = (tt, tt);
     top_low = omega arith;

@@ -19,7 +19,7 @@ use Rattle.pt_rule.specs.Linked.{IsLinked, IsLinkedAt, is_in_tree}
 use Rattle.pt_rule.specs.Lawful.{Lawful, IsOwnPiece, has_child}
 use Rattle.pt_model.proofs.Positions.{is_same_true, true_bit}
 use Rattle.pt_view.specs.Views.{spent}
-use Rattle.pt_rule.proofs.StateMapped.{small, at, zeros, four, new_view, sizes_are, two_entries, two_known, two_parents, two_positions, unlinked_high}
+use Rattle.pt_rule.proofs.StateMapped.{small, at, zeros, four, new_view, root_place, sizes_are, table_place, two_entries, two_known, two_parents, two_positions, unlinked_high}
 
 abbrev pub two_pages : Block
 two_pages = record { first = 4; log2 = 1; out = 8; prot = Read }
@@ -98,8 +98,7 @@ pub shared_lawful : Lawful small 4 2 words views
 shared_lawful = record {
   spans = λ page. grind (arith, nat_tests);
   frames = record {
-    tags = four (λ g. IsTag small (tag words g)) (IsTag.placed (at 1 0) (record { a_level = omega arith; a_page = omega arith; aligned = refl }) refl)
-        (IsTag.placed (at 0 4) (record { a_level = omega arith; a_page = omega arith; aligned = refl }) refl) (IsTag.held None refl)
+    tags = four (λ g. IsTag small (tag words g)) (IsTag.placed (at 1 0) root_place refl) (IsTag.placed (at 0 4) table_place refl) (IsTag.held None refl)
         (IsTag.placed (at 0 8) (record { a_level = omega arith; a_page = omega arith; aligned = refl }) refl);
     held = four (λ g. total (holds g) views ≡ one_if (is_held (tag words g))) refl refl refl refl;
     prepared = four (λ g. total (prepares g) views ≤ one_if (is_placed (tag words g))) (omega arith) (omega arith) (omega arith) (omega arith);
@@ -121,7 +120,7 @@ shared_lawful = record {
   };
   books = each_view _ (λ live. record {
     pieces = (own 0 (omega arith), (own 1 (omega arith), tt));
-    tables = (record { a_position = record { a_level = omega arith; a_page = omega arith; aligned = refl }; off_spine = refl; meets = refl }, tt);
+    tables = (record { a_position = table_place; off_spine = refl; meets = refl }, tt);
     in_order = ((λ p m. absurd (omega arith)), tt);
     pieces_in_order = ((omega arith, tt), (tt, tt));
     top_low = omega arith;
