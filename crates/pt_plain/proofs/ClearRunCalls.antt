@@ -20,7 +20,7 @@ use Rattle.pt_view.proofs.Stays.{range_here}
 use Rattle.pt_rule.specs.Kinds.{EntryTells, zero as tells_zero, own as tells_own, pointer as tells_pointer, look}
 use Rattle.pt_rule.proofs.PieceFacts.{word_some}
 use Rattle.pt_plain.specs.Owner.{Fields, IsOwner, nonzero_in, set_run, span_view, whole_view}
-use Rattle.pt_plain.proofs.ClearCalls as entry
+use Rattle.pt_plain.proofs.EntryCalls as entry
 use Rattle.pt_plain.proofs.Laws.{Laws}
 use Rattle.pt_plain.proofs.Owners.{Does, does, frame_within, given, lowest_in, place_is, span_whole}
 use Rattle.pt_plain.proofs.RunCalls.{Keeps, keeps_here, keeps_on}

@@ -1,4 +1,4 @@
--- The calls on an entry of the path's last table: enter, install and write.
+-- The calls on an entry of the path's last table: enter, install, write and clear.
 use Rattle.std.proofs.Common.{◌≡◌, ◌≢◌, ◌⊎◌, inl, inr, ℕ, Bool, ◌-◌, ◌%◌, ◌<◌, List, [], ◌∷◌, ◌++◌, refl, ap, sym, ◌∙◌, subst, arith, eq-eqb, ⊎_elim}
 use Rattle.std.specs.Prelude.{None, Some, ◌==◌, slice_index, slice_set, if◌then◌else◌}
 use Rattle.std.proofs.lemmas.Bool.{ne_eqb}
@@ -19,18 +19,18 @@ use Rattle.pt_view.specs.declared.holder.Seen.TheVariants.{Empty, Leaf, Entered}
 use Rattle.pt_view.specs.declared.holder.Won.{Won}
 use Rattle.pt_view.specs.declared.holder.Won.TheVariants.{Yes, Met}
 use Rattle.pt_view.specs.Pieces.{word_of}
-use Rattle.pt_view.specs.Calls.{InstallFinds, IsInstalled, IsWritten, Looked, MayInstall, MayPut, MayWrite, MeetsEntry, Went, lowest, zero, leaf, table}
-use Rattle.pt_rule.specs.Kinds.{IsLowestIn, WriteTells, after, frame_of, install, level_at, look, pointer_to, put, write}
+use Rattle.pt_view.specs.Calls.{InstallFinds, IsCleared, IsInstalled, IsWritten, Looked, MayClear, MayDrop, MayInstall, MayPut, MayWrite, MeetsEntry, Went, lowest, zero, leaf, table}
+use Rattle.pt_rule.specs.Kinds.{IsLowestIn, WriteTells, after, clear, frame_of, install, level_at, look, pointer_to, put, write}
 use Rattle.pt_rule.specs.Meets.{Always, Enters as EntersBy, Installs, IsWhole}
 use Rattle.pt_rule.proofs.TablesAdded.{with_cases}
 use Rattle.pt_plain.specs.Owner.{Fields, IsOwner, prepared_at, span_view, whole_view}
-use Rattle.pt_plain.proofs.Carried.{installed_on, went_on, written_on}
+use Rattle.pt_plain.proofs.Carried.{cleared_on, installed_on, went_on, written_on}
 use Rattle.pt_plain.proofs.Laws.{Laws}
 use Rattle.pt_plain.proofs.Matches.{path_deeper, path_kept, prepared_kept, prepared_none, purse_kept}
 use Rattle.pt_plain.proofs.Owners.{Does, frame_within, given, level_below, level_is, low_here, lowest_in, matches, shown, span_whole, whole}
 use Rattle.pt_plain.proofs.Steps.{loaded, noted_after, read_back, says, stored, told}
 
--- What the calls do: the path goes into a child, which is linked at the entry or was, or a word is written there.
+-- What the calls do: the path goes into a child, which is linked at the entry or was, or a word is written or cleared there.
 module _ {f : Layout} {o : Fields} (own : IsOwner f o) (number : ℕ) where
   -- the word in the entry
   abbrev pub word_at : ℕ
@@ -53,15 +53,21 @@ module _ {f : Layout} {o : Fields} (own : IsOwner f o) (number : ℕ) where
   Links frame words =
       Does f o (record o { words = words; path = slice_set o.path (o.level - 1) frame; level = o.level - 1; prepared = None }) (λ v w. IsInstalled f ⊥ number v Yes w)
 
+  abbrev pub MayEmpty : Type 0
+  MayEmpty = MayClear f (span_view f o) number
+
+  abbrev pub Clears : (words : List ℕ) → Type 0
+  Clears words = Does f o (record o { words = words }) (λ v w. IsCleared f ⊥ number v w)
+
   abbrev pub Writes : (word : ℕ) (words : List ℕ) → Type 0
   Writes word words = Does f o (record o { words = words }) (λ v w. IsWritten f ⊥ number word v w × (w.tables ≡ v.tables) × (w.top ≡ v.top))
 
 -- the tags and the root stay where an entry is stored
 module _ (f : Layout) (o : Fields) (frame number word : ℕ) (words : List ℕ) (is : words ≡ slice_set o.words (entry_place f o.frames frame number) word) where
-  pub root_stays : root_level words ≡ root_level o.words
+  root_stays : root_level words ≡ root_level o.words
   root_stays = ap (λ (z : ℕ). z % 8) (ap (λ (ws : List ℕ). slice_index ws 0) is ∙ root_after_entry f o.frames o.words frame number word)
 
-  pub tags_stay : (g : ℕ) → g < o.frames → tag words g ≢ 0 → tag o.words g ≢ 0
+  tags_stay : (g : ℕ) → g < o.frames → tag words g ≢ 0 → tag o.words g ≢ 0
   tags_stay g lt some z = some (ap (λ (ws : List ℕ). tag ws g) is ∙ tag_after_entry f o.frames o.words frame number word g lt ∙ z)
 
 module _ {f : Layout} (laws : Laws f) {o : Fields} (own : IsOwner f o) (number : ℕ) where
@@ -264,3 +270,23 @@ module _ {f : Layout} (laws : Laws f) {o : Fields} (own : IsOwner f o) (number :
   pub wrote_word : {word : ℕ} → MayWrite f (span_view f o) number word → (words : List ℕ) → words ≡ slice_set o.words (entry_place f o.frames frame number) word → Writes own number word words
   wrote_word asked words stores = subst (λ (z : ℕ). Writes own number z words) (sym asked.1)
       (wrote asked.0 asked.2 words (stores ∙ ap (slice_set o.words (entry_place f o.frames frame number)) asked.1))
+
+  -- Clear.
+
+  module _ (asked : MayClear f (span_view f o) number) where
+    drops : (x : Piece) × IsLowestIn v frame × MayDrop f v number x
+    drops = let m = given own (λ w. MayClear f w number) asked in (m.0, lowest_in own m.1.entry, m.1)
+
+    pub clear_within : frame < o.frames
+    clear_within = frame_within own drops.2.entry
+
+    pub cleared : (words : List ℕ) → words ≡ slice_set o.words (entry_place f o.frames frame number) 0 → Clears own number words
+    cleared words stores =
+        let after_it : View = after f (clear frame number drops.0) found v in
+        let r : IsCleared f Always number v after_it = says laws own (clear frame number drops.0) (drops.1, drops.2) in
+        let m = matches own in
+        read_back laws own after_it (record o { words = words }) (stored laws own (clear frame number drops.0) (drops.1, drops.2) refl stores) r.range own.span
+        (record { purse = purse_kept r.purse m.purse; path = path_kept r.path (root_stays f o frame number _ words stores) m.path; prepared = prepared_kept r.prepared m.prepared })
+        (noted_after own after_it r.busy (tags_stay f o frame number _ words stores) (λ p h. (r.known p).1 h)
+        (λ p h. inl (subst (λ (ps : List Position). IsAmong ps p) r.tables h)) r.top)
+        (λ v w. IsCleared f ⊥ number v w) (λ a. cleared_on a r)

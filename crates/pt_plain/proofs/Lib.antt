@@ -14,7 +14,6 @@ mod RunWords
 mod PathCalls
 mod TagCalls
 mod EntryCalls
-mod ClearCalls
 mod UnlinkCalls
 mod RunCalls
 mod ClearRunCalls

@@ -3,7 +3,7 @@ use Rattle.std.specs.Prelude.{slice_index, slice_set}
 use Rattle.pt_model.specs.Words.{entry_place}
 use Rattle.pt_view.specs.Calls.{MayClear}
 use Rattle.pt_plain.specs.Owner.{Owned}
-use Rattle.pt_plain.proofs.ClearCalls as clears
+use Rattle.pt_plain.proofs.EntryCalls as entry
 use Rattle.pt_plain.proofs.Laws.{Laws}
 use Rattle.pt_plain.proofs.Owners.{kept_aside, seen}
 use Rattle.pt_plain.proofs.Stored.{stored}
@@ -14,11 +14,11 @@ use Rattle.pt_plain.proofs.holder.PlainHolder.clear.Goals.{After-deref_mut, Afte
 laws : (g : Over) → Laws g.F.Format.layout
 laws g = let law = g.met.F.Format in record { layout = law.lawful_layout; differ = law.words_differ; agree = law.steps_agree }
 
-may : (g : Over) (c : After-deref_mut g) → clears.Asks c.self.invariant c.args.number
+may : (g : Over) (c : After-deref_mut g) → entry.MayEmpty c.self.invariant c.args.number
 may g c = subst (λ (x : Owned). MayClear g.F.Format.layout x.view c.args.number) (sym c.self.view_is) c.requires
 
 pub set_entry-requires-clause-a_frame : goal.set_entry-requires-clause-a_frame
-set_entry-requires-clause-a_frame g c = clears.within (laws g) c.self.invariant c.args.number (may g c)
+set_entry-requires-clause-a_frame g c = entry.clear_within (laws g) c.self.invariant c.args.number (may g c)
 
 module _ (g : Over) (c : After-set_entry g) where
   abbrev words' : List ℕ
@@ -30,8 +30,8 @@ module _ (g : Over) (c : After-set_entry g) where
       stored c.set_entry.new.words c.deref_mut.result.now o.words.items o.words.len (entry_place g.F.Format.layout o.frames (slice_index o.path o.level) c.args.number) 0
       c.set_entry.ensures c.deref_mut.ensures.value o.words.ok.0
 
-  call : clears.Clears c.self.invariant c.args.number words'
-  call = clears.cleared (laws g) c.self.invariant c.args.number (may g (goal.at.After-set_entry g c).After-deref_mut) words' words_now
+  call : entry.Clears c.self.invariant c.args.number words'
+  call = entry.cleared (laws g) c.self.invariant c.args.number (may g (goal.at.After-set_entry g c).After-deref_mut) words' words_now
 
 pub invariant_of-self : goal.invariant_of-self
 invariant_of-self g c = (call g (goal.at.invariant_of-self g c).After-set_entry).owner
