@@ -29,7 +29,6 @@ use Rattle.pt_map.specs.Stands.{IsEntryExtent, IsExtentAt, IsOwnTable}
 use Rattle.pt_tile.specs.Extents.{IsExtent, IsFirstTo, IsOneBlock, IsRun, first_size, tables_below, tables_of, tiles, under_entry, up_to, from}
 use Rattle.pt_model.proofs.Positions.{among_filtered, among_passes, places_append, among_append, among_left, among_right}
 use Rattle.pt_map.proofs.StandAfter.{at_moves, keeps_here, loads_keep}
-use Rattle.pt_map.specs.Answers.{unknown}
 
 -- the positions below a level that blocks need
 abbrev pub below : Layout → (level : ℕ) → List Block → List Position

@@ -1,7 +1,7 @@
 -- What the load of an entry shows to be absent, of the positions that a part under it needs.
 use Rattle.std.proofs.Common.{append_assoc, ◌≡◌, ℕ, ◌+◌, ◌-◌, ◌*◌, ◌/◌, ◌<◌, ◌≤◌, ◌⊎◌, List, [], ◌∷◌, ◌++◌, length, Bool, true, false, refl, ap, sym, subst, ◌∙◌, arith, inl, inr, ⊎_elim}
-use Rattle.std.specs.Prelude.{IsTrue, ◌==◌, min, nat_le, nat_lt, ◌&&◌, if◌then◌else◌}
-use Rattle.std.proofs.lemmas.Bool.{eqb-true, false_from_ne_true, and_from, and_parts, cases_eq, cases_lt, false≢true, le-leb, leb-true, lt-ltb, ltb-true, or_left}
+use Rattle.std.specs.Prelude.{◌==◌, min, nat_le, nat_lt, ◌&&◌, if◌then◌else◌}
+use Rattle.std.proofs.lemmas.Bool.{eqb-true, false_from_ne_true, and_from, and_parts, cases_eq, cases_lt, false≢true, le-leb, leb-true, lt-ltb, or_left}
 use Rattle.std.proofs.lemmas.Nat.{pow_pos}
 use Rattle.pt_model.specs.declared.position.Position.{Position}
 use Rattle.pt_model.specs.Layout.{Layout, pages_of_entry}
@@ -12,9 +12,9 @@ use Rattle.pt_view.specs.declared.view.View.{View}
 use Rattle.pt_view.specs.declared.view.Absence.{Absence}
 use Rattle.pt_view.specs.declared.view.Absence.TheVariants.{Zero}
 use Rattle.pt_view.specs.declared.holder.Seen.{Seen}
-use Rattle.pt_view.specs.declared.holder.Seen.TheVariants.{Empty, Leaf, Entered}
+use Rattle.pt_view.specs.declared.holder.Seen.TheVariants.{Empty, Entered}
 use Rattle.pt_model.specs.Sets.{IsAmong}
-use Rattle.pt_view.specs.Calls.{IsVacant, Looked, Went, zero as looked_zero, leaf as looked_leaf, table as looked_table, entry_first, is_under, left}
+use Rattle.pt_view.specs.Calls.{Looked, Went, zero as looked_zero, leaf as looked_leaf, table as looked_table, entry_first, is_under, left}
 use Rattle.pt_view.specs.Loads.{ByLoads}
 use Rattle.pt_view.specs.Pieces.{entry_number}
 use Rattle.pt_view.proofs.Loads.{IsLoad, load_none, load_table, table_loads, table_owned, table_path}
@@ -27,7 +27,6 @@ use Rattle.pt_map.specs.Stands.{IsEntryExtent, IsExtentAt, IsOwnTable}
 use Rattle.pt_tile.specs.Extents.{tables_below, tables_of, tiles}
 use Rattle.pt_map.proofs.StandAfter.{at_inside, loads_keep}
 use Rattle.pt_map.proofs.AbsentCounted.{own_on, shown_right}
-use Rattle.pt_map.specs.Answers.{unknown}
 
 -- what is told of a load of an entry that was zero
 abbrev ZeroTold : Layout → View → Position → (number : ℕ) → View → Seen → Type 0

@@ -40,9 +40,6 @@ module _ {f : Layout} (good : IsLayout f) (b : Block) (legal : IsLegalBlock f b)
   abbrev pub page_of_word : ℕ → ℕ
   page_of_word i = b.first + i * pages_of_entry f level
 
-  quotient_first : ℕ
-  quotient_first = b.first / pages_of_entry f level
-
   pub first_whole : b.first ≡ b.first / pages_of_entry f level * pages_of_entry f level
   first_whole = whole b.first bits (coarse_is_fine bits b.log2 b.first (let e = size_is in omega arith) legal.first_aligned)
 
@@ -51,6 +48,9 @@ module _ {f : Layout} (good : IsLayout f) (b : Block) (legal : IsLegalBlock f b)
 
   word_entry : (i : ℕ) → page_of_word i / pages_of_entry f level ≡ b.first / pages_of_entry f level + i
   word_entry i = ap (λ y. y / pages_of_entry f level) (word_whole i) ∙ shl-shr (b.first / pages_of_entry f level + i) bits
+
+  word_split : (i : ℕ) → page_of_word i / pages_of_entry f level ≡ b.first / pages_of_entry f level / 2 ^ f.index * 2 ^ f.index + (b.first / pages_of_entry f level % 2 ^ f.index + i)
+  word_split i = word_entry i ∙ (let s = shr_split (b.first / pages_of_entry f level) f.index in omega arith)
 
   -- the entries of a block are in one table
   first_entry : b.first / pages_of_entry f level % 2 ^ f.index + 2 ^ more ≤ 2 ^ f.index
@@ -68,8 +68,7 @@ module _ {f : Layout} (good : IsLayout f) (b : Block) (legal : IsLegalBlock f b)
   number_at i less =
       let m : ℕ = b.first / pages_of_entry f level in
       let fits = first_entry in
-      let split : m + i ≡ m / 2 ^ f.index * 2 ^ f.index + (m % 2 ^ f.index + i) = (let s = shr_split m f.index in omega arith) in
-      ap (λ y. y % 2 ^ f.index) (word_entry i ∙ split) ∙ mod_low (m / 2 ^ f.index) f.index (m % 2 ^ f.index + i) (omega arith)
+      ap (λ y. y % 2 ^ f.index) (word_split i) ∙ mod_low (m / 2 ^ f.index) f.index (m % 2 ^ f.index + i) (omega arith)
 
   pub number_low : (i : ℕ) → i < 2 ^ more → entry_number f level b.first + i < 2 ^ f.index
   number_low i less = let fits = first_entry in omega arith
@@ -78,9 +77,8 @@ module _ {f : Layout} (good : IsLayout f) (b : Block) (legal : IsLegalBlock f b)
   table_at i less =
       let m : ℕ = b.first / pages_of_entry f level in
       let fits = first_entry in
-      let split : m + i ≡ m / 2 ^ f.index * 2 ^ f.index + (m % 2 ^ f.index + i) = (let s = shr_split m f.index in omega arith) in
       let q : page_of_word i / pages_of_table f level ≡ b.first / pages_of_table f level =
-      sym (quotient f (page_of_word i) level) ∙ ap (λ y. y / 2 ^ f.index) (word_entry i ∙ split)
+      sym (quotient f (page_of_word i) level) ∙ ap (λ y. y / 2 ^ f.index) (word_split i)
       ∙ shr_high (m / 2 ^ f.index) f.index (m % 2 ^ f.index + i) (omega arith) ∙ quotient f b.first level in
       same_position (position_over f (page_of_word i) level) (position_over f b.first level) refl (ap (λ y. y * pages_of_table f level) q)
 

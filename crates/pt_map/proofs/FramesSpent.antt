@@ -1,7 +1,6 @@
 -- The lacking positions, and the frames that are spent on them.
-use Rattle.std.proofs.Common.{◌≡◌, ℕ, ◌+◌, ◌<◌, ◌≤◌, List, [], ◌∷◌, ◌++◌, length, true, false, inl, inr, refl, ap, sym, ◌∙◌, arith, append_assoc, length-append}
+use Rattle.std.proofs.Common.{◌≡◌, ℕ, ◌+◌, ◌<◌, ◌≤◌, List, [], ◌++◌, length, inl, inr, refl, ap, sym, ◌∙◌, arith, append_assoc, length-append}
 use Rattle.std.specs.Prelude.{◌⊎◌, filter, not}
-use Rattle.std.proofs.lemmas.Bool.{cases_Bool}
 use Rattle.pt_model.specs.declared.position.Position.{Position}
 use Rattle.pt_model.specs.Tables.{is_same, needed}
 use Rattle.pt_model.proofs.Positions.{among_filtered, among_passes, filter_fewer, is_same_self, same_cases}

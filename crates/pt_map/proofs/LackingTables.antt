@@ -1,6 +1,6 @@
 -- The positions that a request needs and that a book lacks, against those that were found absent.
 use Rattle.std.proofs.lemmas.Bool.{not-true, not_from_false, and_from, and_parts, cases_lt, false_from_ne_true, false≢true, le-leb, lt-ltb, ltb-true, or_cases, or_left, or_right}
-use Rattle.std.proofs.Common.{◌≡◌, ◌⊎◌, ◌↔◌, ℕ, ◌+◌, ◌<◌, ◌≤◌, List, ◌++◌, Bool, true, false, inl, inr, refl, ap, sym, subst, ◌∙◌, arith, length-append, ◌-◌}
+use Rattle.std.proofs.Common.{◌≡◌, ◌⊎◌, ◌↔◌, ℕ, ◌+◌, ◌<◌, ◌≤◌, List, ◌++◌, true, false, inl, inr, ap, sym, subst, ◌∙◌, arith, length-append, ◌-◌}
 use Rattle.std.specs.Prelude.{IsTrue, ◌&&◌, not, nat_le, nat_lt, filter, length}
 use Rattle.pt_model.specs.declared.block.Block.{Block}
 use Rattle.pt_model.specs.declared.position.Position.{Position}

@@ -18,7 +18,6 @@ use Rattle.pt_tile.proofs.FirstSizes.{size_greatest}
 use Rattle.pt_tile.proofs.Levels.{over_first}
 use Rattle.pt_view.specs.declared.view.View.{View}
 use Rattle.pt_view.specs.declared.view.Node.{Node}
-use Rattle.pt_view.specs.Pieces.{IsOneOf}
 use Rattle.pt_view.specs.Calls.{Rooted, lowest}
 use Rattle.pt_view.specs.Views.{IsAtRest, book_of}
 use Rattle.pt_walk.specs.Walks.{IsClear, IsOverRange, IsWayDown, OwnsAll, OwnsOver, WentDown}

@@ -1,5 +1,5 @@
 -- The steps of a map from a table on down, taken together: the look, the draw and the writing.
-use Rattle.std.proofs.Common.{◌≡◌, ℕ, ◌+◌, ◌*◌, ◌/◌, ◌%◌, ◌^◌, ◌<◌, ◌≤◌, List, [], ◌∷◌, ◌++◌, Bool, false, inl, inr, refl, ap, sym, subst, ◌∙◌, arith, append_assoc}
+use Rattle.std.proofs.Common.{◌≡◌, ℕ, ◌+◌, ◌*◌, ◌/◌, ◌%◌, ◌^◌, ◌<◌, ◌≤◌, List, [], ◌∷◌, ◌++◌, Bool, inl, inr, refl, ap, sym, subst, ◌∙◌, arith, append_assoc}
 use Rattle.std.specs.Prelude.{IsTrue, ◌&&◌, ◌==◌, length, map}
 use Rattle.std.proofs.lemmas.Bool.{cases_Bool, cases_lt}
 use Rattle.std.proofs.lemmas.List.{append-nil}
@@ -29,7 +29,7 @@ use Rattle.pt_walk.specs.Walks.{IsFree, IsLowest, OwnsAll}
 use Rattle.pt_tile.specs.declared.extent.Extent.{Extent}
 use Rattle.pt_map.specs.declared.refused.MapRefused.{MapRefused}
 use Rattle.pt_map.specs.Absent.{Counted, is_shown}
-use Rattle.pt_map.specs.Answers.{FindsEach, IsRefused, lacking}
+use Rattle.pt_map.specs.Answers.{FindsEach, IsRefused}
 use Rattle.pt_map.specs.Filled.{HasNoPiece, MayStore, Fills, MayFill, HasRoom}
 use Rattle.pt_map.specs.Requests.{Gathered, IsLackOf, LacksFrames, MappedBelow, MayMapBelow, HasFrames, RefusedBelow}
 use Rattle.pt_map.proofs.TablesAfter.{gains_on, no_table_in}

@@ -16,7 +16,7 @@ use Rattle.pt_view.specs.declared.view.Change.{Change}
 use Rattle.pt_view.specs.declared.view.Change.TheVariants.{Written}
 use Rattle.pt_view.specs.declared.view.Piece.{Piece}
 use Rattle.pt_view.specs.Lists.{IsIn}
-use Rattle.pt_view.specs.Pieces.{IsOneOf, add_pieces, all_pieces}
+use Rattle.pt_view.specs.Pieces.{add_pieces, all_pieces}
 use Rattle.pt_view.specs.Views.{IsAtRest, SameBook, SameRange, book_of, Aside, linked_count}
 use Rattle.pt_walk.specs.Walks.{IsFree, OwnsAll, OwnsOver}
 use Rattle.pt_view.specs.Loads.{AddsAbsences, ByLoads}

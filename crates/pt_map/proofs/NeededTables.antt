@@ -13,7 +13,7 @@ use Rattle.pt_model.specs.declared.block.Prot.{Prot}
 use Rattle.pt_model.specs.declared.position.Position.{Position}
 use Rattle.pt_model.specs.Layout.{Layout, IsLegalBlock, end_of, input_pages, is_size, level_of_size, pages_of_entry, pages_of_table}
 use Rattle.pt_model.specs.Tables.{add_positions, all_needed, end_of_table, least_top, levels_between, needed, position_over, spine_position, is_spine}
-use Rattle.pt_model.specs.Tiling.{IsTiling, block_at}
+use Rattle.pt_model.specs.Tiling.{block_at}
 use Rattle.pt_model.specs.Sets.{IsAmong, IsSorted}
 use Rattle.pt_model.proofs.Positions.{among_filtered, among_passes, same_members, sorted_adds, sorted_filter, sorted_levels, among_none, adds_are, among_levels, levels_among, among_append, among_left}
 use Rattle.pt_model.proofs.TilingFacts.{tiling_first}

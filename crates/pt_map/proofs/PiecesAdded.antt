@@ -1,16 +1,16 @@
 -- Pieces put among others, and how many of them stand at an entry.
-use Rattle.std.proofs.Common.{◌≡◌, ℕ, ◌+◌, List, [], ◌∷◌, ◌++◌, true, inl, inr, refl, ap, sym, ◌∙◌, arith, append_assoc}
+use Rattle.pt_view.proofs.Pieces.{here_one}
+use Rattle.std.proofs.Common.{◌≡◌, ℕ, ◌+◌, List, [], ◌∷◌, ◌++◌, true, inl, inr, refl, ap, sym, ◌∙◌, arith}
 use Rattle.std.specs.Prelude.{◌&&◌, ◌==◌, nat_le}
-use Rattle.std.proofs.lemmas.Bool.{and_from, and_parts, cases_Bool, eq-eqb, eqb-true}
+use Rattle.std.proofs.lemmas.Bool.{and_parts, cases_Bool, eqb-true}
 use Rattle.std.proofs.lemmas.List.Sums.{fold-append}
 use Rattle.pt_model.specs.declared.position.Position.{Position}
-use Rattle.pt_model.specs.declared.block.Block.{Block}
 use Rattle.pt_model.specs.Layout.{Layout}
 use Rattle.pt_model.specs.Tables.{is_same}
-use Rattle.pt_model.proofs.Positions.{is_same_self, is_same_true}
+use Rattle.pt_model.proofs.Positions.{is_same_true}
 use Rattle.pt_view.specs.declared.view.Piece.{Piece}
 use Rattle.pt_model.specs.Sets.{one_if}
-use Rattle.pt_view.specs.Pieces.{IsOneOf, add_piece, add_pieces, all_pieces, first_of, number_of, pieces_of, table_of}
+use Rattle.pt_view.specs.Pieces.{IsOneOf, add_piece, add_pieces, first_of, number_of, table_of}
 use Rattle.pt_view.specs.Calls.{pieces_at}
 
 pub add_append : (f : Layout) (old xs ys : List Piece) → add_pieces f old (xs ++ ys) ≡ add_pieces f (add_pieces f old xs) ys
@@ -19,10 +19,7 @@ add_append f old xs ys = fold-append (add_piece f) old xs ys
 module _ (f : Layout) (p : Position) (n : ℕ) where
   -- a piece stands at its own entry alone
   pub stands_at : (x : Piece) → p ≡ table_of f x → number_of f x ≡ n → pieces_at f p n (x ∷ []) ≡ 1
-  stands_at x table number =
-      let b : (is_same p (table_of f x) && (number_of f x == n)) ≡ true =
-      and_from (is_same p (table_of f x)) _ (is_same_self p (table_of f x) (sym table)) (eq-eqb (number_of f x) n number) in
-      let one = ap one_if b in omega arith
+  stands_at x table number = (λ i. pieces_at f (table i) (sym number i) (x ∷ [])) ∙ here_one f x
 
   pub stands_not : (x : Piece) → (p ≡ table_of f x → number_of f x ≡ n → ⊥) → pieces_at f p n (x ∷ []) ≡ 0
   stands_not x other = elim (cases_Bool (is_same p (table_of f x) && (number_of f x == n))) [

@@ -1,5 +1,5 @@
 -- The tables of a book after a map, and that each of them has a piece under it.
-use Rattle.std.proofs.lemmas.Bool.{not-true, cases_Bool, and_parts, leb-true, false≢true, false_from_ne_true}
+use Rattle.std.proofs.lemmas.Bool.{not-true, cases_Bool, and_parts, leb-true, false_from_ne_true}
 use Rattle.pt_view.specs.Views.{SameBook}
 use Rattle.std.proofs.Common.{◌≡◌, ℕ, suc, ◌+◌, ◌-◌, ◌*◌, ◌/◌, ◌<◌, ◌≤◌, ◌⊎◌, ◌↔◌, List, [], ◌∷◌, Bool, true, false, inl, inr, refl, ap, sym, subst, ◌∙◌, arith}
 use Rattle.std.specs.Prelude.{IsTrue, nat_le, not, filter, length, slice_index_or, AllPairs}
@@ -8,7 +8,7 @@ use Rattle.std.proofs.lemmas.Nat.{pow_pos, shr_split, mod_below}
 use Rattle.pt_model.specs.declared.block.Block.{Block}
 use Rattle.pt_model.specs.declared.position.Position.{Position}
 use Rattle.pt_model.specs.Layout.{Layout, end_of, level_of_size, pages_of_table}
-use Rattle.pt_model.specs.Tables.{add_positions, end_of_table, is_before, is_spine, needed, position_over, all_needed}
+use Rattle.pt_model.specs.Tables.{add_positions, end_of_table, is_before, is_spine, position_over, all_needed}
 use Rattle.pt_model.specs.Sets.{IsSorted, IsAmong}
 use Rattle.pt_model.specs.Book.{table_lies_in}
 use Rattle.pt_model.proofs.Positions.{among_none, adds_by_members, filter_members, among_filtered, among_passes, among_cases}

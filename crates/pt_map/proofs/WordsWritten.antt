@@ -1,6 +1,6 @@
 -- The words of a block may be written.
-use Rattle.std.proofs.lemmas.Bool.{not-true, and_from, and_parts, cases_Bool, false≢true, le-leb, leb-true, ltb-true}
-use Rattle.std.proofs.Common.{◌≡◌, ℕ, ◌+◌, ◌-◌, ◌*◌, ◌^◌, ◌<◌, ◌≤◌, List, [], ◌∷◌, Bool, true, false, inl, inr, refl, ap, sym, ◌∙◌, subst, arith}
+use Rattle.std.proofs.lemmas.Bool.{not-true, and_from, and_parts, cases_Bool, le-leb, leb-true, ltb-true}
+use Rattle.std.proofs.Common.{◌≡◌, ℕ, ◌+◌, ◌-◌, ◌*◌, ◌^◌, ◌<◌, ◌≤◌, List, [], ◌∷◌, true, false, inl, inr, refl, ap, sym, ◌∙◌, subst, arith}
 use Rattle.std.specs.Prelude.{◌↔◌, ◌&&◌, nat_le, nat_lt, not}
 use Rattle.std.proofs.lemmas.Nat.{pow_pos}
 use Rattle.pt_model.specs.declared.position.Position.{Position}
@@ -23,7 +23,6 @@ use Rattle.pt_view.proofs.Members.{piece_at}
 use Rattle.pt_map.proofs.PathTables.{positions}
 use Rattle.pt_map.proofs.BlockWords.{number_at, number_low, stands_here, table_at, word_ends, word_first, words_are}
 use Rattle.pt_tile.specs.Extents.{IsOneBlock, tiles}
-use Rattle.pt_tile.specs.Counting.{at_level}
 
 -- the positions of a path that aren't of the spine
 pub among_off : (levels : ℕ) (path : List Node) (p : Position) → IsAmong (off_spine levels path) p ↔ (IsAmong (positions path) p × (is_spine levels p ≡ false))
