@@ -153,6 +153,27 @@ fn map_entry<F: Format, H: Holder<F>>(
     Ok(())
 }
 
+/// The same, for an extent that is one block of that table: it needs no further table.
+#[inline(always)]
+fn map_block<F: Format, H: Holder<F>>(
+    holder: &mut H,
+    level: u32,
+    extent: Extent,
+    log2: u32,
+) -> Result<(), MapRefused>
+    requires may { MayMapBelow F.layout (H.view holder.old) extent level }
+    requires block { IsBlockOf F.layout extent log2 level }
+    ensures stays { Stays H.space H.aside H.alone holder.old holder.new }
+    ensures ends { EndsBelow F.layout H.tells (H.alone holder.old) (linked_count (H.view holder.old) (H.aside holder.old))
+        (H.view holder.old) (H.view holder.new) extent level result }
+{
+    if log2 == F::INDEX * level {
+        map_entry::<F, H>(holder, level, extent, log2)
+    } else {
+        map_entries::<F, H>(holder, level, extent, log2)
+    }
+}
+
 /// Maps an extent from the path's last table, of this level, or refuses it. `log2` is the size of its first block.
 #[inline(always)]
 fn map_at<F: Format, H: Holder<F>>(
@@ -169,12 +190,7 @@ fn map_at<F: Format, H: Holder<F>>(
         (H.view holder.old) (H.view holder.new) extent level result }
 {
     if log2 >= F::INDEX * level && extent.end - extent.first == 1 << log2 {
-        // one block of this table needs no further table
-        if log2 == F::INDEX * level {
-            map_entry::<F, H>(holder, level, extent, log2)
-        } else {
-            map_entries::<F, H>(holder, level, extent, log2)
-        }
+        map_block::<F, H>(holder, level, extent, log2)
     } else {
         map_below::<F, H>(holder, level, extent)
     }
