@@ -25,7 +25,7 @@ first_path =
     on 4 (Map 0x1000 0x200000 0x1000 ReadWrite) ∷ on 5 (Lookup 0x1abc) ∷ on 6 (Map 0x1000 0x3000 0x1000 Read)
     ∷ on 7 (Map 0x1234 0x3000 0x1000 Read) ∷ on 8 (Map 0x8000000000 0x0 0x1000 Read) ∷ on 9 (Lookup 0x2000) ∷ on 10 (Lookup 0x8000000000) ∷ []
 
-pub first_path_text : replies_text (run_of machine first_path)
+pub first_path_text : replies_text machine.layout (run_of machine first_path)
     ≡ codes "4 map ok\n5 lookup 0x200abc rw\n6 map occupied 0x1000\n7 map misaligned\n8 map outside\n9 lookup none\n10 lookup outside\n"
 unfolding digits
 first_path_text = refl
@@ -34,7 +34,7 @@ first_path_text = refl
 pub first_path_linked : linked_count 3 (book_of machine (new_book three_levels 3) first_path) ≡ 3
 first_path_linked = refl
 
-pub few_frames : replies_text (run_of (record machine { frames = 3 }) (on 4 (Map 0x1000 0x200000 0x1000 ReadWrite) ∷ on 5 (Map 0x40000000 0x2000 0x1000 ReadWrite) ∷ on 6 (Map 0x2000 0x2000 0x1000 Read) ∷ []))
+pub few_frames : replies_text machine.layout (run_of (record machine { frames = 3 }) (on 4 (Map 0x1000 0x200000 0x1000 ReadWrite) ∷ on 5 (Map 0x40000000 0x2000 0x1000 ReadWrite) ∷ on 6 (Map 0x2000 0x2000 0x1000 Read) ∷ []))
     ≡ codes "4 map ok\n5 map frames\n6 map ok\n"
 unfolding digits
 few_frames = refl

@@ -5,6 +5,7 @@ pub mod Tiling
 pub mod Tables
 pub mod Words
 pub mod Book
+pub mod Unmap
 pub mod Run
 pub mod Text
 pub mod Sets

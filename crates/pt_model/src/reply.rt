@@ -1,6 +1,6 @@
 //! What a script is answered.
 
-use crate::block::Prot;
+use crate::block::{Block, Prot};
 
 /// The answer to a `map`. The address is an input address, in bytes.
 #[derive(Clone, Copy, Debug, PartialEq, Eq)]
@@ -11,6 +11,16 @@ pub enum MapAnswer {
     Output,
     Occupied { address: u64 },
     Frames,
+}
+
+/// The answer to an `unmap`: how many pages are no longer mapped, or why nothing changed. The block is the
+/// lowest one that the range cuts.
+#[derive(Clone, Copy, Debug, PartialEq, Eq)]
+pub enum UnmapAnswer {
+    Unmapped { pages: u64 },
+    Misaligned,
+    Outside,
+    Cuts { block: Block },
 }
 
 /// The answer to a `lookup`. The output address is in bytes.
@@ -25,6 +35,7 @@ pub enum LookupAnswer {
 #[derive(Clone, Copy, Debug, PartialEq, Eq)]
 pub enum Answer {
     Map(MapAnswer),
+    Unmap(UnmapAnswer),
     Lookup(LookupAnswer),
 }
 
