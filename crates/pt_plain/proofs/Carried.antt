@@ -83,8 +83,8 @@ module _ {f : Layout} {v u w : View} (a : Agrees u w) where
 
   looked_on : {p : Position} {number : ℕ} (seen : Seen) → IsWhole f v → Looked f Always (IsWhole f v) v p number seen u → Looked f ⊥ (Unit {0}) v p number seen w
   looked_on Empty whole (zero x path known vacant told) = zero w (a.same.path ∙ path) (λ p. through (known p) (a.known p)) vacant (λ no. absurd no)
-  looked_on (Leaf word) whole (leaf x word' piece path known told member at once is) =
-      leaf w word piece (a.same.path ∙ path) (λ p. through (known p) (a.known p)) (λ no. absurd no) member at once is
+  looked_on (Leaf word) whole (leaf x word' piece path known told member at once is under) =
+      leaf w word piece (a.same.path ∙ path) (λ p. through (known p) (a.known p)) (λ no. absurd no) member at once is under
   looked_on Entered whole (table x frame path known told high none owned) =
       table w frame (a.same.path ∙ path) (λ p. through (known p) (a.known p)) (λ no. absurd no) high none (λ _. owned whole)
 
