@@ -1,5 +1,7 @@
 pub mod Cases
 pub mod WalkFacts
+pub mod AmdFacts
 pub mod VtdCases
 pub mod X86Cases
 pub mod RiscvCases
+pub mod AmdCases

@@ -4,8 +4,9 @@
 //! format. `walk_vtdss` is that of VT-d second-stage tables (Intel Virtualization Technology for Directed
 //! I/O, Architecture Specification, second-stage translation), `walk_x86` that of x86-64 tables (Intel 64
 //! and IA-32 Architectures Software Developer's Manual, volume 3, paging), `walk_riscv` that of RISC-V tables
-//! (Privileged Architecture, virtual address translation). All take nine index bits at each level, AND the
-//! permissions along the way, and differ in what an entry says.
+//! (Privileged Architecture, virtual address translation), `walk_amdv1` that of AMD tables (AMD I/O Virtualization
+//! Technology Specification, I/O page tables for host translations). All take nine index bits at each level, AND the
+//! permissions along the way, and differ in what an entry says. AMD's root says how many levels there are.
 //!
 //! The words are a root, a tag for each frame, and the frames. An entry that is present and of no form of
 //! the profile is alien, at the level of its table; so is a pointer past the frames, and a bad root.
@@ -14,6 +15,7 @@
 //! It stands on the permissions and definitions of formats, and promises that each walk is its definition.
 #![tactic(auto)]
 
+mod amd;
 mod bits;
 mod riscv;
 mod space;
@@ -23,6 +25,7 @@ mod walk;
 mod walked;
 mod x86;
 
+pub use amd::walk_amdv1;
 pub use riscv::walk_riscv;
 pub use vtd::walk_vtdss;
 pub use walked::Walked;
