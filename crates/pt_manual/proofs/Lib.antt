@@ -3,3 +3,4 @@ pub mod WalkFacts
 pub mod VtdCases
 pub mod X86Cases
 pub mod RiscvCases
+pub mod VmsaFacts

@@ -4,3 +4,4 @@ pub mod NineBitWalk
 pub mod VtdWalk
 pub mod X86Walk
 pub mod RiscvWalk
+pub mod VmsaWalk

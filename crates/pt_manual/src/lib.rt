@@ -15,15 +15,19 @@
 #![tactic(auto)]
 
 mod bits;
+mod descriptor;
+mod granule;
 mod riscv;
 mod space;
 mod step;
+mod vmsa;
 mod vtd;
 mod walk;
 mod walked;
 mod x86;
 
 pub use riscv::walk_riscv;
+pub use vmsa::walk_vmsa;
 pub use vtd::walk_vtdss;
 pub use walked::Walked;
 pub use x86::walk_x86;
