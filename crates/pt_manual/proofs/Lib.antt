@@ -4,3 +4,4 @@ pub mod VtdCases
 pub mod X86Cases
 pub mod RiscvCases
 pub mod VmsaFacts
+pub mod VmsaCases

@@ -1,5 +1,5 @@
 -- One step of the walk of VMSAv8-64 tables, as a loop makes it.
-use Rattle.std.proofs.Common.{◌≡◌, ℕ, zero, suc, ◌+◌, ◌-◌, ◌<◌, List, ap, sym, ◌∙◌, arith}
+use Rattle.std.proofs.Common.{◌≡◌, ℕ, suc, ◌+◌, ◌-◌, ◌<◌, List, ap, sym, ◌∙◌, arith}
 use Rattle.pt_model.specs.Words.{entry_in}
 use Rattle.pt_manual.specs.VmsaWalk.{descriptor_at, followed, index_at, index_bits, walk_from}
 use Rattle.pt_manual.specs.declared.descriptor.Descriptor.{Descriptor}

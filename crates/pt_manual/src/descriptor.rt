@@ -31,14 +31,8 @@ const BLOCK: u64 = VALID + AP1 + SH + AF + NG;
 pub enum Descriptor {
     Invalid,
     Reserved,
-    Table {
-        address: u64,
-    },
-    Page {
-        address: u64,
-        log2: u32,
-        prot: Prot,
-    },
+    Table { address: u64 },
+    Page { address: u64, log2: u32, prot: Prot },
 }
 
 /// The bits 47 down to the granule of a word, in place.

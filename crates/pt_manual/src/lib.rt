@@ -4,8 +4,10 @@
 //! format. `walk_vtdss` is that of VT-d second-stage tables (Intel Virtualization Technology for Directed
 //! I/O, Architecture Specification, second-stage translation), `walk_x86` that of x86-64 tables (Intel 64
 //! and IA-32 Architectures Software Developer's Manual, volume 3, paging), `walk_riscv` that of RISC-V tables
-//! (Privileged Architecture, virtual address translation). All take nine index bits at each level, AND the
-//! permissions along the way, and differ in what an entry says.
+//! (Privileged Architecture, virtual address translation). These take nine index bits at each level, AND the
+//! permissions along the way, and differ in what an entry says. `walk_vmsa` is that of VMSAv8-64 tables (Arm
+//! Architecture Reference Manual for A-profile architecture, the AArch64 virtual memory system), whose index bits
+//! go by the granule.
 //!
 //! The words are a root, a tag for each frame, and the frames. An entry that is present and of no form of
 //! the profile is alien, at the level of its table; so is a pointer past the frames, and a bad root.
