@@ -3,4 +3,5 @@ pub mod Drawn
 -- tables that are unlinked one after another, those that lie in a range, and those of a book at rest
 mod Empties
 mod EmptyTables
+mod RootRaised
 mod BookTables
