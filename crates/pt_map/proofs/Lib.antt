@@ -5,6 +5,7 @@ mod FirstMapped
 -- Words of blocks, and the tables that blocks need.
 mod BlockWords
 mod NeededTables
+mod PastRoot
 mod LackingTables
 -- The numbers of a request, and where the way to its extent stands.
 mod RequestNumbers
