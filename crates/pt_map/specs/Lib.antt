@@ -1,4 +1,5 @@
 pub mod Stands
+pub mod Replaced
 pub mod Absent
 pub mod Filled
 pub mod Answers

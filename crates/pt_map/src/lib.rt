@@ -8,6 +8,7 @@
 mod entry;
 mod fill;
 mod refused;
+mod replace;
 mod request;
 mod survey;
 
