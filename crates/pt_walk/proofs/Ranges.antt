@@ -107,9 +107,9 @@ module _ {f : Layout} (good : IsLayout f) {tells alone : Type 0} {v : View} {fir
   pub free_here : seen ≡ Empty → OwnsAll f v → IsClear f v first end level → IsFree f v first end
   free_here e owns clear = λ page low high x member has. empty_none good owns (load_at page low high) e x member has (clear page low high x member has)
 
-  -- no table begins under an empty entry
-  pub no_table_here : seen ≡ Empty → HasNoTable v first end level
-  no_table_here e = λ q m low from to.
+  -- no table begins under an entry that names none
+  pub no_table_here : (¬ (seen ≡ Entered)) → HasNoTable v first end level
+  no_table_here not = λ q m low from to.
       let place : Position = position_over f first level in
       let number : ℕ = entry_number f level first in
       let is = entry_first_is f first level in
@@ -118,7 +118,12 @@ module _ {f : Layout} (good : IsLayout f) {tells alone : Type 0} {v : View} {fir
       and_from (nat_lt q.level level && nat_le (entry_first f place number) q.base) _
       (and_from (nat_lt q.level level) _ (lt-ltb q.level level low) (le-leb (entry_first f place number) q.base (omega arith)))
       (lt-ltb q.base (entry_end f place number) (omega arith)) in
-      false≢true (sym ((load_none l e).vacant.no_table q m) ∙ under)
+      by_kind seen refl q m under
+    where
+      by_kind : (s : Seen) → seen ≡ s → (q : Position) → IsAmong v.tables q → is_under f (position_over f first level) (entry_number f level first) q ≡ true → ⊥
+      by_kind Empty e q m under = false≢true (sym ((load_none l e).vacant.no_table q m) ∙ under)
+      by_kind (Leaf word) e q m under = false≢true (sym ((load_leaf l e).none_under.no_table q m) ∙ under)
+      by_kind Entered e q m under = not e
 
   pub lowest_here : {word : ℕ} → seen ≡ Leaf word → OwnsAll f v → IsLowest f v first end first
   lowest_here e owns =

@@ -2,6 +2,8 @@ use Rattle.std.proofs.Common.{◌≡◌, ℕ, ◌+◌, ◌-◌, ◌*◌, ◌/◌
 use Rattle.std.proofs.lemmas.Bool.{false≢true}
 use Rattle.pt_model.specs.Layout.{pages_of_entry}
 use Rattle.pt_view.specs.declared.view.View.{View}
+use Rattle.pt_view.specs.declared.holder.Seen.{Seen}
+use Rattle.pt_view.specs.declared.holder.Seen.TheVariants.{Empty, Entered}
 use Rattle.pt_view.proofs.Loads.{IsLoad, back_loads, back_path, leaf_loads, load_leaf, load_none, loads_here, loads_on, none_loads, some_path, table_high}
 use Rattle.pt_view.proofs.Stays.{stays_here, stays_on}
 use Rattle.pt_view.specs.Loads.{ByLoads}
@@ -50,8 +52,11 @@ first_at-returns-in-Empty g t c =
       stays = c.enter.ensures.stays;
       walked = none_loads l c.in-Empty.is;
       path = (load_none l c.in-Empty.is).path;
-      under = λ clear. (free_here g.met.F.Format.lawful_layout r.range r.one l c.in-Empty.is r.owns clear, no_table_here g.met.F.Format.lawful_layout r.range r.one l c.in-Empty.is);
+      under = λ clear. (free_here g.met.F.Format.lawful_layout r.range r.one l c.in-Empty.is r.owns clear, no_table_here g.met.F.Format.lawful_layout r.range r.one l (λ other. not_both c.in-Empty.is other));
     }
+  where
+    not_both : {s : Seen} → s ≡ Empty → s ≡ Entered → ⊥
+    not_both a b = cc
 
 pub first_at-returns-in-Leaf : goal.first_at-returns-in-Leaf
 first_at-returns-in-Leaf g t c =
