@@ -149,7 +149,8 @@ module _ {f : Layout} (good : IsLayout f) {x : Extent} (part : IsExtent f x) whe
   replaced_ends p aligned e =
       let r = replaced_tells f p (tiles f x) e in
       let t = tile_of good part r.0 r.1 in
-      (r.0, r.1, r.3, table_ends f.index p.level r.0.log2 r.0.first p.base index_some r.2 t.legal.first_aligned aligned r.4, r.2)
+      let inside : IsTableIn f r.0 p = r.2 in
+      (r.0, r.1, inside.1, table_ends f.index p.level r.0.log2 r.0.first p.base index_some inside.0 t.legal.first_aligned aligned inside.2, inside.0)
 
   -- so it lies in the extent
   pub replaced_inside : (p : Position) → p.base % pages_of_table f p.level ≡ 0 → is_replaced f (tiles f x) p ≡ true → (x.first ≤ p.base) × (end_of_table f p ≤ x.end)

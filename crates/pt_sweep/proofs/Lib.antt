@@ -1,6 +1,6 @@
 -- Facts for other crates: frames that are drawn one after another.
 pub mod Drawn
 -- tables that are unlinked one after another, those that lie in a range, and those of a book at rest
-mod Empties
-mod EmptyTables
+pub mod Empties
+pub mod EmptyTables
 mod BookTables
