@@ -44,7 +44,7 @@ module _ (f : Layout) (x z : Extent) (xs : List Block) (split : tiles f x ≡ xs
 
 -- what was filled is kept
 pub filled_keeps : {f : Layout} {tells : Type 0} {v w : View} {blocks : List Block} {needed : List Position} → Filled f tells v w blocks needed → Keeps v w
-filled_keeps filled = record { range = filled.range; top = filled.top; prepared = filled.prepared; known = filled.known }
+filled_keeps filled = record { range = filled.range; top = filled.top; prepared = filled.prepared; known = λ l low h. filled.known (spine_position l) h }
 
 -- Filling goes on.
 pub filled_none : (f : Layout) (tells : Type 0) (v : View) → Filled f tells v v [] []
@@ -268,7 +268,7 @@ module _ {f : Layout} (good : IsLayout f) {v : View} {x : Extent} {level : ℕ} 
 
     pub may_inside : MayStore f w x (level - 1)
     may_inside = record {
-      stands = stands_inside good may.stands entry (record { range = deeper.range; top = deeper.top; prepared = deeper.prepared; known = λ p h. (deeper.known p).1 (inr h) })
+      stands = stands_inside good may.stands entry (record { range = deeper.range; top = deeper.top; prepared = deeper.prepared; known = λ l low h. (deeper.known (spine_position l)).1 (inr h) })
           node refl deeper.path.1;
       no_piece = λ page higher low before. ap (pieces_at f (position_over f page higher) (entry_number f higher page)) deeper.pieces ∙ may.no_piece page higher low before;
       no_table = λ p h c m. elim (tables_deeper p h) [

@@ -14,8 +14,11 @@ mod StandAfter
 -- The look before a change: what is absent.
 mod AbsentShown
 mod AbsentCounted
+mod ReplacedTables
 mod SurveyFinds
 mod FramesDrawn
+-- Way is made: the tables that blocks take the place of are unlinked.
+mod WayMade
 -- The writing: tables that are linked, frames that are spent, and words.
 mod LinkedTables
 mod FramesSpent

@@ -4,7 +4,7 @@ use Rattle.std.specs.Prelude.{Some}
 use Rattle.pt_model.specs.declared.position.Position.{Position}
 use Rattle.pt_model.specs.Layout.{Layout}
 use Rattle.pt_model.specs.Sets.{IsAmong}
-use Rattle.pt_model.specs.Tables.{end_of_table, least_top, position_over, spine_position}
+use Rattle.pt_model.specs.Tables.{end_of_table, least_top, position_over, spine_position, starting_top}
 use Rattle.pt_model.proofs.Tops.{top_mono}
 use Rattle.pt_format.specs.Laws.{IsLayout}
 use Rattle.pt_view.specs.declared.view.View.{View}
@@ -22,19 +22,19 @@ use Rattle.pt_map.proofs.NeededTables.{same_table}
 use Rattle.pt_map.proofs.PathTables.{way_moves, way_on}
 use Rattle.pt_view.specs.Loads.{ByLoads}
 
--- a step that keeps the range, the top and the prepared frame, and forgets no linked position
+-- a step that keeps the range, the top and the prepared frame, and forgets no linked position of the spine
 pub record Keeps (v w : View) : Type 0 where
   pub range : SameRange v w
   pub top : w.top ≡ v.top
   pub prepared : w.prepared ≡ v.prepared
-  pub known : (p : Position) → IsAmong v.known p → IsAmong w.known p
+  pub known : (l : ℕ) → starting_top v.levels ≤ l → IsAmong v.known (spine_position l) → IsAmong w.known (spine_position l)
 
 -- loads keep what was met
 pub loads_keep : {tells : Type 0} {v w : View} → ByLoads tells v w → Keeps v w
-loads_keep loads = record { range = loads.range; top = loads.book.top; prepared = loads.prepared; known = loads.known }
+loads_keep loads = record { range = loads.range; top = loads.book.top; prepared = loads.prepared; known = λ l low h. loads.known (spine_position l) h }
 
 pub keeps_here : (v : View) → Keeps v v
-keeps_here v = record { range = record { frames = refl; levels = refl; first = refl; count = refl }; top = refl; prepared = refl; known = λ p h. h }
+keeps_here v = record { range = record { frames = refl; levels = refl; first = refl; count = refl }; top = refl; prepared = refl; known = λ l low h. h }
 
 -- The path stays, and the way goes on to an extent that is inside the one before.
 module _ {f : Layout} (good : IsLayout f) {v w : View} {x y : Extent} {level : ℕ} (at : IsExtentAt f v x level) (part : IsExtent f y) (from_it : x.first ≤ y.first) (to_it : y.end ≤ x.end)
@@ -61,7 +61,7 @@ module _ {f : Layout} (good : IsLayout f) {v w : View} {x y : Extent} {level : �
           to = omega arith;
         };
         low = low;
-        spine = λ l high below. keeps.known (spine_position l) (at.spine l (omega arith) below);
+        spine = λ l high below. keeps.known l (omega arith) (at.spine l (omega arith) below);
       }
 
 -- the same, on the way from the root
@@ -111,7 +111,7 @@ module _ {f : Layout} (good : IsLayout f) {v w : View} {x : Extent} {level : ℕ
             to = omega arith;
           };
           low = lower_size;
-          spine = λ l high low. keeps.known (spine_position l) (at.spine l (omega arith) (omega arith));
+          spine = λ l high low. keeps.known l (omega arith) (at.spine l (omega arith) (omega arith));
         }
 
 -- the same, on the way from the root

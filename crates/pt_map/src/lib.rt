@@ -9,6 +9,7 @@ mod beyond;
 mod entry;
 mod fill;
 mod refused;
+mod replace;
 mod request;
 mod survey;
 

@@ -114,14 +114,20 @@ module _ {f : Layout} {v : View} {first end levels : ℕ} (empty : IsEmptyRange 
   }
 
   -- tables that are unlinked in it aren't those of pieces
-  pub empty_on : {tells alone : Type 0} {w : View} (a b level at to : ℕ) → Unlinks f tells alone (lies_below f a b level) v w → first ≤ a → b ≤ end → first ≤ at → to ≤ end → IsEmptyRange f w at to levels
-  empty_on {w = w} a b level at to u from upto low high = record {
+  pub empty_kept : {tells alone : Type 0} {w : View} (passes : Position → Bool) →
+      ((q : Position) → q.base % pages_of_table f q.level ≡ 0 → passes q ≡ true → (first ≤ q.base) × (q.base + pages_of_table f q.level ≤ end)) →
+      (at to : ℕ) → Unlinks f tells alone passes v w → first ≤ at → to ≤ end → IsEmptyRange f w at to levels
+  empty_kept {w = w} passes inside at to u low high = record {
     owns = λ x m.
         let member : IsOneOf v.pieces x = subst (λ (xs : List Piece). IsOneOf xs x) u.pieces m in
         let o : IsOwn f v x = empty.owns x member in
         let s = shr_split (first_of f x) (f.index * (level_of f x + 1)) in
         let r = mod_below (first_of f x) (pages_of_table f (level_of f x)) (pow_pos (f.index * (level_of f x + 1))) in
-        let stays : lies_below f a b level (table_of f x) ≡ false = below_none f a b level (table_of f x) (λ l p q. no_piece x member (omega arith) (omega arith)) in
+        let whole : (table_of f x).base % pages_of_table f (level_of f x) ≡ 0 =
+        (let g : (table_of f x).base ≡ (table_of f x).base + 0 = omega arith in ap (λ n. n % pages_of_table f (level_of f x)) g)
+        ∙ mod-mul-add (first_of f x / pages_of_table f (level_of f x)) (pages_of_table f (level_of f x)) 0 (pow_pos (f.index * (level_of f x + 1))) in
+        let stays : passes (table_of f x) ≡ false = false_from_ne_true (passes (table_of f x)) (λ e.
+        let h = inside (table_of f x) whole e in let from = h.0 in let upto = h.1 in no_piece x member (omega arith) (omega arith)) in
         record {
           a_part = o.a_part;
           legal = o.legal;
@@ -130,18 +136,22 @@ module _ {f : Layout} {v : View} {first end levels : ℕ} (empty : IsEmptyRange 
           low = let t = u.top in let h = o.low in omega arith;
           in_table = ⊎_elim
               (λ (i : IsAmong v.tables (table_of f x)). inl (subst (λ (ps : List Position). IsAmong ps (table_of f x)) (sym u.tables)
-              (among_passes (λ q. not (lies_below f a b level q)) v.tables (table_of f x) i (ap not stays))))
+              (among_passes (λ q. not (passes q)) v.tables (table_of f x) i (ap not stays))))
               (λ i. inr (subst (λ (k : ℕ). IsTrue (is_spine k (table_of f x))) (sym u.range.levels) i)) o.in_table;
         };
     free = λ page l h x member. empty.free page (omega arith) (omega arith) x (subst (λ (xs : List Piece). IsOneOf xs x) u.pieces member);
     tables = λ q m.
-        let i = among_filtered (λ x. not (lies_below f a b level x)) v.tables q (subst (λ (ps : List Position). IsAmong ps q) u.tables m) in
+        let i = among_filtered (λ x. not (passes x)) v.tables q (subst (λ (ps : List Position). IsAmong ps q) u.tables m) in
         let t : IsBookTable f v q = empty.tables q i.0 in
         record { off_spine = subst (λ (l : ℕ). is_spine l q ≡ false) (sym u.range.levels) t.off_spine; aligned = t.aligned };
-    once = λ q. let m = places_filtered (λ x. not (lies_below f a b level x)) v.tables q in let o = empty.once q in let e = ap (places q) u.tables in omega arith;
+    once = λ q. let m = places_filtered (λ x. not (passes x)) v.tables q in let o = empty.once q in let e = ap (places q) u.tables in omega arith;
     levels_are = empty.levels_are ∙ sym u.range.levels;
     none = u.prepared ∙ empty.none;
   }
+
+  pub empty_on : {tells alone : Type 0} {w : View} (a b level at to : ℕ) → Unlinks f tells alone (lies_below f a b level) v w → first ≤ a → b ≤ end → first ≤ at → to ≤ end → IsEmptyRange f w at to levels
+  empty_on a b level at to u from upto low high =
+      empty_kept (lies_below f a b level) (λ q aligned e. let h = below_tells f a b level q e in let base = h.1 in let ends = h.2 in (omega arith, omega arith)) at to u low high
 
 -- a part of it
 pub empty_part : {f : Layout} {v : View} {first end levels : ℕ} → IsEmptyRange f v first end levels → (at to : ℕ) → first ≤ at → to ≤ end → IsEmptyRange f v at to levels

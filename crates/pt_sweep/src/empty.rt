@@ -51,7 +51,7 @@ fn is_off_spine<F: Format>(level: u32, first: u64, end: u64, levels: u32) -> boo
 /// Unlinks the tables off the spine that lie in a range under the path's last table, of this level, where no
 /// block meets the range.
 #[cycle(clear_tables)]
-fn clear_tables<F: Format, H: Holder<F>>(
+pub fn clear_tables<F: Format, H: Holder<F>>(
     holder: &mut H,
     level: u32,
     first: u64,

@@ -1,14 +1,14 @@
 //! Changes over a range: the draw of free frames, and the unlinking of tables that hold nothing.
 //!
 //! It stands on the walks over holders. Each call is proved once, over every holder, and what it says holds
-//! whatever other holders do between its steps: a draw leaves the book and the path as they are, and
-//! `clear_empty` leaves the blocks, and the holder at rest. No call takes memory.
+//! whatever other holders do between its steps: a draw leaves the book and the path as they are, `clear_empty` leaves
+//! the blocks, and the holder at rest, and `clear_tables` the blocks and the path. No call takes memory.
 #![tactic(auto)]
 
 mod empty;
 mod frames;
 mod root;
 
-pub use empty::clear_empty;
+pub use empty::{clear_empty, clear_tables};
 pub use frames::draw;
 pub use root::raise;
