@@ -4,6 +4,7 @@ mod BlocksAdded
 mod FirstMapped
 -- Words of blocks, and the tables that blocks need.
 mod BlockWords
+mod TopsOver
 mod NeededTables
 mod PastRoot
 mod LackingTables
