@@ -8,7 +8,7 @@ use Rattle.pt_model.specs.declared.position.Position.{Position}
 use Rattle.pt_model.specs.declared.block.Block.{Block}
 use Rattle.pt_model.specs.Layout.{Layout, level_of_size, pages_of_table}
 use Rattle.pt_model.specs.Sets.{IsSorted, IsAmong}
-use Rattle.pt_model.specs.Tables.{all_needed, end_of_table, is_spine, position_over}
+use Rattle.pt_model.specs.Tables.{all_needed, end_of_table, is_spine, position_over, spine_position}
 use Rattle.pt_model.proofs.Positions.{sorted_add, added_are, among_one}
 use Rattle.pt_model.proofs.Quotients.{entry_is_table}
 use Rattle.pt_format.specs.Laws.{IsLayout}
