@@ -115,33 +115,36 @@ module _ {f : Layout} (good : IsLayout f) (v : View) (blocks : List Block) {x : 
       pub absent_all : length absent ≡ length (lacking f v blocks x)
       absent_all = same_length absent (lacking f v blocks x) once lacking_once absent_lacks lacks_absent
 
-  -- the tables after a map are those before and the lacking ones
+  -- the tables after a map are those before, but for those that blocks take the place of, and the lacking ones
   pub tables_more : least_top f v.levels x.end ≤ v.top → (tables : List Position) → IsSorted v.tables → IsSorted tables →
-      ((p : Position) → IsAmong tables p ↔ (IsAmong v.tables p ⊎ (IsAmong (tables_of f x) p × (is_spine v.levels p ≡ false)))) →
-      length tables ≡ length v.tables + length (lacking f v blocks x)
+      ((p : Position) → IsAmong tables p ↔ ((IsAmong v.tables p × (is_replaced f (tiles f x) p ≡ false)) ⊎ (IsAmong (tables_of f x) p × (is_spine v.levels p ≡ false)))) →
+      length tables + length (replaced f v (tiles f x)) ≡ length v.tables + length (lacking f v blocks x)
   tables_more top tables sorted sorted_after same =
       let more : List Position = lacking f v blocks x in
-      let once : Once (v.tables ++ more) = (λ p.
-      let sum = places_append p v.tables more in
-      let a = sorted_once v.tables sorted p in let b = lacking_once p in
+      let stays : Position → Bool = λ p. not (is_replaced f (tiles f x) p) in
+      let left : List Position = filter stays v.tables in
+      let once : Once (left ++ more) = (λ p.
+      let sum = places_append p left more in
+      let a = sorted_once left (sorted_filter stays v.tables sorted) p in let b = lacking_once p in
       elim (cases_lt 0 (places p more)) [
         | inr none ↦ omega arith
-        | inl some ↦ elim (cases_lt 0 (places p v.tables)) [
-          | inl both ↦ absurd ((lacks top p some).1 both)
+        | inl some ↦ elim (cases_lt 0 (places p left)) [
+          | inl both ↦ absurd ((lacks top p some).1 (among_filtered stays v.tables p both).0)
           | inr none ↦ omega arith
         ]
       ]) in
-      let e : length tables ≡ length (v.tables ++ more) =
-      same_length tables (v.tables ++ more) (sorted_once tables sorted_after) once
+      let e : length tables ≡ length (left ++ more) =
+      same_length tables (left ++ more) (sorted_once tables sorted_after) once
       (λ p h. elim ((same p).0 h) [
-        | inl old ↦ among_left p v.tables more old
+        | inl old ↦ among_left p left more (among_passes stays v.tables p old.0 (ap not old.1))
         | inr new ↦ elim (cases_lt 0 (places p v.tables)) [
-          | inl old ↦ among_left p v.tables more old
-          | inr none ↦ among_right p v.tables more (is_lacking p new.0 (λ there. omega arith) new.1)
+          | inl old ↦ among_left p left more (among_passes stays v.tables p old (ap not (needed_stays good part p new.0)))
+          | inr none ↦ among_right p left more (is_lacking p new.0 (λ there. omega arith) new.1)
         ]
       ])
-      (λ p h. (same p).1 (elim (among_append p v.tables more h) [
-        | inl old ↦ inl old
+      (λ p h. (same p).1 (elim (among_append p left more h) [
+        | inl old ↦ (let r = among_filtered stays v.tables p old in inl (r.0, not-true (is_replaced f (tiles f x) p) r.1))
         | inr new ↦ (let l = lacks top p new in inr (l.0, l.2))
       ])) in
-      let sum = length-append v.tables more in omega arith
+      let sum = length-append left more in
+      let parts = two_parts (is_replaced f (tiles f x)) v.tables in omega arith

@@ -5,3 +5,4 @@ pub mod Absent
 pub mod Filled
 pub mod Answers
 pub mod Requests
+pub mod Beyond

@@ -125,7 +125,7 @@ fn map_entries<F: Format, H: Holder<F>>(
     }
     // what the purse tells of the account of frames is part of the answer
     let _held = holder.purse();
-    make_way::<F, H>(holder, level, extent, under == Under::Tables);
+    make_way::<F, H>(holder, level, extent, under.has_tables());
     let run = F::word_run(level, log2, extent.out, extent.prot, 1);
     write_run::<F, H>(holder, level, extent.block(log2), run);
     Ok(())
@@ -154,7 +154,7 @@ fn map_entry<F: Format, H: Holder<F>>(
     }
     // what the purse tells of the account of frames is part of the answer
     let _held = holder.purse();
-    make_way::<F, H>(holder, level, extent, under == Under::Tables);
+    make_way::<F, H>(holder, level, extent, under.has_tables());
     write_entry::<F, H>(holder, level, extent.block(log2));
     Ok(())
 }

@@ -96,7 +96,7 @@ pub(crate) fn survey<F: Format, H: Holder<F>>(
             Found::Mapped { page } => return Found::Mapped { page },
             Found::Absent { count, tables } => {
                 absent = u64::min(cap, absent + count);
-                over_tables = over_tables || tables;
+                over_tables |= tables;
             }
         }
         rest = rest.from(looked.to);

@@ -167,6 +167,11 @@ under_free f first end level Nothing none b h = free_on f first end b h.0
 under_free f first end level Tables none b h = free_on f first end b h
 under_free f first end level (Mapped page) none b h = absurd (none page refl)
 
+pub under_nothing : (f : Layout) (v : View) (first end level : ℕ) (u : Under) → ((page : ℕ) → ¬ (u ≡ Mapped page)) → (¬ (u ≡ Tables)) → FindsUnder f v first end level u → HasNoTable v first end level
+under_nothing f v first end level Nothing none other h = h.1
+under_nothing f v first end level Tables none other h = absurd (other refl)
+under_nothing f v first end level (Mapped page) none other h = absurd (none page refl)
+
 -- no table begins in a range, for views of one book, and one range after the other
 pub no_table_on : {v w : View} (first end level : ℕ) → SameBook v w → HasNoTable w first end level → HasNoTable v first end level
 no_table_on first end level b none = λ q m low from to. none q (subst (λ (ps : List Position). IsAmong ps q) (sym b.tables) m) low from to

@@ -3,6 +3,7 @@
 ghost use Rattle.pt_view.specs.Views.{Stays};
 ghost use Rattle.std.specs.Prelude.{◌≡◌, ◌+◌, ◌*◌, ◌/◌, ◌^◌, ◌≤◌, ◌<◌, ◌↔◌, IsTrue, min, length};
 ghost use Rattle.pt_model.specs.Layout.{input_pages, pages_of_entry};
+ghost use Rattle.pt_walk.specs.declared.range.Under.TheVariants.{Tables};
 ghost use Rattle.pt_walk.specs.Walks.{Climbs, FindsUnder, IsClear, IsOverRange, OwnsAll, OwnsOver, StaysClear, StopsAt, WentDown};
 ghost use Rattle.pt_view.specs.Loads.{ByLoads};
 
@@ -19,6 +20,19 @@ pub enum Under {
     Tables,
     /// Mapped pages of the range, of which this is the lowest.
     Mapped { page: u64 },
+}
+
+impl Under {
+    /// Whether tables stand there, and no page of the range is mapped.
+    #[inline(always)]
+    pub fn has_tables(self) -> bool
+        ensures { IsTrue result ↔ (self ≡ Tables) }
+    {
+        match self {
+            Under::Tables => true,
+            _ => false,
+        }
+    }
 }
 
 /// The page after the last one under the entry over a page, in a table of this level; 2^63 where that is
