@@ -72,6 +72,20 @@ spine_needed f n prot (b ∷ bs) first out left level t some low up =
           (levels_in spine_position (n - 1) (least_top f n (end_of b)) level low (let e = ap (least_top f n) ends in omega arith)))
     ]
 
+-- a page past the table of a level at page 0 needs a top above the level
+pub above_reach : (f : Layout) (n end level : ℕ) → level < f.levels → pages_of_table f level < end → level < least_top f n end
+above_reach f n end level below past = elim (cases_lt level (least_top f n end)) [
+  | inl fine ↦ fine
+  | inr less ↦ absurd (let within = above_top f n end level below (omega arith) in omega arith)
+]
+
+-- and isn't past that of the highest level
+pub last_reaches : (f : Layout) (end level : ℕ) → level < f.levels → end ≤ pages_of_table f (f.levels - 1) → pages_of_table f level < end → level + 1 < f.levels
+last_reaches f end level below within past = elim (cases_lt (level + 1) f.levels) [
+  | inl fine ↦ fine
+  | inr high ↦ absurd (let wide = table_mono f (f.levels - 1) level (omega arith) in omega arith)
+]
+
 -- The root's table is too low for an extent.
 module _ {f : Layout} (good : IsLayout f) {x : Extent} (part : IsExtent f x) (n root : ℕ) (start : f.start ≤ n) (low : n - 1 ≤ root) (past : pages_of_table f root < x.end) where
   abbrev pub reach : ℕ
@@ -115,10 +129,7 @@ module _ {f : Layout} (good : IsLayout f) {x : Extent} (part : IsExtent f x) (n 
   ]
 
   pub past_top : root < least_top f n x.end
-  past_top = elim (cases_lt root (least_top f n x.end)) [
-    | inl fine ↦ fine
-    | inr less ↦ absurd (let few = root_low in let within = above_top f n x.end root (omega arith) (omega arith) in omega arith)
-  ]
+  past_top = above_reach f n x.end root (let few = root_low in omega arith) past
 
   abbrev pub all : List Position
   all = all_needed f n (tiles f x)

@@ -56,7 +56,7 @@ fn extent_in<F: Format>(
 }
 
 /// Draws the frames that a purse lacks for so many absent tables.
-fn gather<F: Format, H: Holder<F>>(holder: &mut H, absent: u64) -> Result<(), MapRefused>
+pub(crate) fn gather<F: Format, H: Holder<F>>(holder: &mut H, absent: u64) -> Result<(), MapRefused>
     requires { (H.view holder.old).prepared ≡ None }
     ensures stays { Stays H.space H.aside H.alone holder.old holder.new }
     ensures gathers { Gathers H.tells (H.alone holder.old) (linked_count (H.view holder.old) (H.aside holder.old))
