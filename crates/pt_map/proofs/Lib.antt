@@ -7,6 +7,7 @@ mod BlockWords
 mod TopsOver
 mod NeededTables
 mod PastRoot
+mod NearRoot
 mod LackingTables
 -- The numbers of a request, and where the way to its extent stands.
 mod RequestNumbers
@@ -34,3 +35,4 @@ mod MapFromTable
 mod MapResults
 mod MapFromRoot
 mod MapAnswers
+mod BeyondMapped

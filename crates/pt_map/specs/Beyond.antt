@@ -32,8 +32,7 @@ use Rattle.pt_map.specs.Requests.{AreAbsent, LacksFrames}
 abbrev pub near_root : Layout → (levels root : ℕ) → Extent → List Position
 near_root f levels root x = filter (λ p. not (reaches_past f root p) && not (is_spine levels p)) (all_needed f levels (tiles f x))
 
--- An extent may be mapped from the root, which is too low for it: no table that is linked or known reaches past the root's
--- pages.
+-- An extent may be mapped from the root, which is too low for it: no table of the book reaches past the root's pages.
 pub record MayMapBeyond (f : Layout) (v : View) (x : Extent) (root : ℕ) : Type 0 where
   pub at : AtRoot f v root
   pub extent : IsExtent f x
@@ -46,7 +45,6 @@ pub record MayMapBeyond (f : Layout) (v : View) (x : Extent) (root : ℕ) : Type
   pub tables : (p : Position) → IsAmong v.tables p → IsBookTable f v p
   pub once : (p : Position) → places p v.tables < 2
   pub over_tables : (p : Position) → IsAmong v.tables p → end_of_table f p ≤ pages_of_table f root
-  pub over_known : (p : Position) → IsAmong v.known p → end_of_table f p ≤ pages_of_table f root
 
 -- What lies under the root was looked through: the lowest mapped page, or that none is mapped, so many of the tables needed
 -- there are absent, and whether tables stand where blocks go.
