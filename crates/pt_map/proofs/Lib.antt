@@ -2,9 +2,10 @@
 mod PiecesAdded
 mod BlocksAdded
 mod FirstMapped
--- Words of blocks, and the tables that blocks need.
+-- Words of blocks, the tables that blocks need, and those that they take the place of.
 mod BlockWords
 mod NeededTables
+mod ReplacedTables
 mod LackingTables
 -- The numbers of a request, and where the way to its extent stands.
 mod RequestNumbers
@@ -13,7 +14,6 @@ mod StandAfter
 -- The look before a change: what is absent.
 mod AbsentShown
 mod AbsentCounted
-mod ReplacedTables
 mod SurveyFinds
 mod FramesDrawn
 -- Way is made: the tables that blocks take the place of are unlinked.

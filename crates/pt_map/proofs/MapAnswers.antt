@@ -12,7 +12,7 @@ use Rattle.pt_view.specs.declared.view.Node.{Node}
 use Rattle.pt_view.specs.Views.{Aside, IsAtRest, book_of, linked_count}
 use Rattle.pt_walk.specs.Walks.{OwnsOver, Rests}
 use Rattle.pt_map.specs.declared.refused.MapRefused.{MapRefused}
-use Rattle.pt_map.specs.Answers.{Accounts, Answers, HasNoEmptyTable, IsMapped, IsRefused, IsShortOf, IsWanting, KeepsPurse, LinksAll, extent_at}
+use Rattle.pt_map.specs.Answers.{Accounts, Answers, IsMapped, IsRefused, IsShortOf, IsWanting, KeepsPurse, LinksAll, extent_at}
 use Rattle.pt_map.specs.Requests.{EndsBelow, IsOfNumbers, MappedBelow, IsRefusedByNumbers, IsRequested, occupied}
 use Rattle.pt_map.proofs.MapFromRoot.{Reached, owns_table, path_long, standing}
 use Rattle.pt_map.proofs.MapResults.{Standing, rested}
@@ -45,13 +45,6 @@ module _ {f : Layout} (good : IsLayout f) {tells alone alone_d : Type 0} {v u d 
 
   here : Standing f tells v d h.reached.begun.may.rest.0 x level
   here = standing good h.reached h.reached.begun.may.rest.0 h.reached.begun.may.rest.1
-
-  full_below : (r : Result (Unit {0}) MapRefused) → EndsBelow f tells alone_d linked d w x level r → HasNoEmptyTable f w
-  full_below (Ok t) m = results.full_mapped good here m
-  full_below (Err e) m = results.full_refused good here m
-
-  pub full_after : HasNoEmptyTable f z
-  full_after = subst (HasNoEmptyTable f) (sym at_rest) (full_below r h.ends)
 
   is_mapped : MappedBelow f tells alone_d linked d w x level → (blocks : List Block) → IsAtRest f v blocks → IsMapped f tells v z blocks x
   is_mapped m blocks rest = subst (λ (y : View). IsMapped f tells v y blocks x) (sym at_rest) (results.is_mapped good (standing good h.reached blocks rest) m)

@@ -1,5 +1,5 @@
 -- The way of a map from the root down to the lowest linked table over its extent.
-use Rattle.std.proofs.Common.{◌≡◌, ℕ, ◌+◌, ◌-◌, ◌*◌, ◌/◌, ◌<◌, ◌≤◌, List, [], ◌∷◌, ◌++◌, true, false, inl, inr, refl, ap, sym, subst, ◌∙◌, arith, length-append}
+use Rattle.std.proofs.Common.{◌≡◌, ℕ, ◌+◌, ◌-◌, ◌*◌, ◌/◌, ◌%◌, ◌<◌, ◌≤◌, List, [], ◌∷◌, ◌++◌, true, false, inl, inr, refl, ap, sym, subst, ◌∙◌, arith, length-append}
 use Rattle.std.specs.Prelude.{IsTrue, Some, ◌==◌, nat_le, length}
 use Rattle.std.proofs.lemmas.Bool.{and_from, cases_lt, eq-eqb, le-leb}
 use Rattle.std.proofs.lemmas.List.Elements.{All-contains}
@@ -8,9 +8,10 @@ use Rattle.pt_model.specs.declared.block.Block.{Block}
 use Rattle.pt_model.specs.declared.position.Position.{Position}
 use Rattle.pt_model.specs.Layout.{Layout, input_pages, pages_of_table}
 use Rattle.pt_model.specs.Book.{IsLawful}
-use Rattle.pt_model.specs.Sets.{IsAmong}
+use Rattle.pt_model.specs.Sets.{IsAmong, places}
 use Rattle.pt_model.specs.Tables.{IsPosition, is_spine, least_top, position_over, spine_position, starting_top}
 use Rattle.pt_model.proofs.Tops.{table_mono}
+use Rattle.pt_model.proofs.Positions.{sorted_once}
 use Rattle.pt_format.specs.Laws.{IsLayout}
 use Rattle.pt_tile.specs.declared.extent.Extent.{Extent}
 use Rattle.pt_tile.specs.Extents.{first_size}
@@ -31,7 +32,7 @@ use Rattle.pt_map.specs.Requests.{MayMap, MayMapBelow}
 use Rattle.pt_map.specs.Stands.{StandsAt}
 use Rattle.pt_map.proofs.NeededTables.{space_in_table, top_is}
 use Rattle.pt_map.proofs.MapResults.{Standing}
-use Rattle.pt_map.proofs.TablesAfter.{full_on, member_at, sorted_tables}
+use Rattle.pt_map.proofs.TablesAfter.{member_at, sorted_tables}
 
 -- a way down, and a further one from its end
 way_on : (f : Layout) (page level : ℕ) (xs ys : List Node) → IsWayDown f page level xs → IsWayDown f page (level - length xs) ys → IsWayDown f page level (xs ++ ys)
@@ -54,6 +55,10 @@ pub record Begun (f : Layout) (tells alone : Type 0) (v u : View) (x : Extent) (
 module _ {f : Layout} (good : IsLayout f) {tells alone : Type 0} {v u : View} {x : Extent} {root : ℕ} (b : Begun f tells alone v u x root) where
   lawful_here : IsLawful f v.levels (book_of v b.may.rest.0)
   lawful_here = b.may.lawful b.may.rest.0 b.may.rest.1
+
+  -- the tables of the book are at multiples of their pages
+  aligned_here : (p : Position) → IsAmong v.tables p → p.base % pages_of_table f p.level ≡ 0
+  aligned_here p m = (All-contains (IsPosition f) v.tables p lawful_here.positions (member_at v.tables p m)).aligned
 
   -- such a space starts with all levels
   all_levels : v.levels ≡ f.levels
@@ -171,10 +176,16 @@ module _ {f : Layout} (good : IsLayout f) {tells alone : Type 0} {v u d : View} 
         stands = stands;
         owns = owns_on f w.range w.book (owns_at_rest good b);
         clear = h.clear;
-        positions = λ p m.
+        levels = (let l = b.may.levels in let e = w.range.levels in omega arith);
+        tables = λ p m.
             let there : IsAmong v.tables p = subst (λ (ps : List Position). IsAmong ps p) w.book.tables m in
-            All-contains (IsPosition f) v.tables p lawful.positions (member_at v.tables p there);
-        full = full_on f v d w.book b.may.full;
+            record {
+              off_spine = subst (λ (l : ℕ). is_spine l p ≡ false) (sym w.range.levels) (All-contains (λ q. is_spine v.levels q ≡ false) v.tables p lawful.off_spine (member_at v.tables p there));
+              aligned = aligned_here good b p there;
+            };
+        once = λ p.
+            let s : places p v.tables ≤ 1 = sorted_once v.tables (sorted_tables v.tables lawful.tables_in_order) p in
+            let e : places p d.tables ≡ places p v.tables = ap (places p) w.book.tables in omega arith;
       }
 
   pub standing : (blocks : List Block) → IsAtRest f v blocks → Standing f tells v d blocks x level
@@ -186,7 +197,7 @@ module _ {f : Layout} (good : IsLayout f) {tells alone : Type 0} {v u d : View} 
         lawful = lawful;
         owns = owns_at_rest good b;
         sorted = sorted_tables v.tables lawful.tables_in_order;
-        full = b.may.full;
+        aligned = aligned_here good b;
         extent = b.may.inside.extent;
         start = b.may.levels;
         few = (let s = all_levels good b in omega arith);

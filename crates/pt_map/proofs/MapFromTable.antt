@@ -32,7 +32,7 @@ use Rattle.pt_map.specs.Requests.{Gathered, IsLackOf, LacksFrames, MappedBelow, 
 use Rattle.pt_map.specs.Replaced.{HasNoneReplaced, MayMakeWay, UnlinksReplaced, is_replaced, replaced}
 use Rattle.pt_map.specs.Stands.{StandsAt}
 use Rattle.pt_map.proofs.NeededTables.{has_below}
-use Rattle.pt_map.proofs.ReplacedTables.{needed_stays, replaced_none}
+use Rattle.pt_map.proofs.ReplacedTables.{needed_stays, replaced_none, two_parts}
 use Rattle.pt_map.proofs.WayMade.{unlinks_keep}
 use Rattle.pt_model.proofs.Positions.{among_filtered, among_passes, filter_in, filter_out, sorted_filter}
 use Rattle.pt_view.proofs.Loads.{absences_on}
@@ -64,16 +64,6 @@ pub no_piece_kept : (f : Layout) → IsLayout f → (v w : View) (first end : �
 no_piece_kept f good v w first end owns pieces free =
     subst (λ (ps : List Piece). (page level : ℕ) → first ≤ page → page < end → pieces_at f (position_over f page level) (entry_number f level page) ps ≡ 0) (sym pieces)
     (no_piece_over f good v first end owns free)
-
--- those that pass a test, and those that don't
-two_parts : (t : Position → Bool) (ps : List Position) → length (filter t ps) + length (filter (λ p. not (t p)) ps) ≡ length ps
-two_parts t [] = refl
-two_parts t (p ∷ ps) =
-    let rest : length (filter t ps) + length (filter (λ q. not (t q)) ps) ≡ length ps = two_parts t ps in
-    elim (cases_Bool (t p)) [
-      | inl e ↦ (let a = ap length (filter_in t p ps e) in let b = ap length (filter_out (λ q. not (t q)) p ps (ap not e)) in omega arith)
-      | inr e ↦ (let a = ap length (filter_out t p ps e) in let b = ap length (filter_in (λ q. not (t q)) p ps (ap not e)) in omega arith)
-    ]
 
 -- what leaves the book leaves the count of linked positions
 pub linked_same : (v w : View) (aside : Aside) → SameRange v w → SameBook v w → linked_count w aside ≡ linked_count v aside

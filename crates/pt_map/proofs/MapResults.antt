@@ -1,10 +1,10 @@
 -- What a map answers, from what it did below the table that is over all of its part.
-use Rattle.std.proofs.Common.{◌≡◌, ◌⊎◌, ◌↔◌, ℕ, ◌+◌, ◌-◌, ◌<◌, ◌≤◌, List, [], ◌++◌, false, inl, inr, refl, ap, sym, subst, ◌∙◌, arith, append_assoc}
-use Rattle.std.specs.Prelude.{IsTrue, Some, None, length, map, min, option_map}
+use Rattle.std.proofs.Common.{◌≡◌, ◌⊎◌, ◌↔◌, ℕ, ◌+◌, ◌-◌, ◌<◌, ◌≤◌, List, [], ◌++◌, false, inl, inr, refl, ap, sym, subst, ◌∙◌, arith, append_assoc, length-append, ◌%◌}
+use Rattle.std.specs.Prelude.{IsTrue, Some, None, filter, length, map, min, option_map}
 use Rattle.std.proofs.lemmas.Bool.{cases_lt}
 use Rattle.pt_model.specs.declared.block.Block.{Block}
 use Rattle.pt_model.specs.declared.position.Position.{Position}
-use Rattle.pt_model.specs.Layout.{Layout}
+use Rattle.pt_model.specs.Layout.{Layout, pages_of_table}
 use Rattle.pt_model.specs.Book.{IsLawful, Occupied, lowest_mapped}
 use Rattle.pt_model.specs.Pages.{byte_at}
 use Rattle.pt_model.specs.Sets.{IsSorted, IsAmong, places}
@@ -26,13 +26,14 @@ use Rattle.pt_walk.proofs.Ranges.{free_on, lowest_on}
 use Rattle.pt_tile.specs.declared.extent.Extent.{Extent}
 use Rattle.pt_map.specs.declared.refused.MapRefused.{MapRefused}
 use Rattle.pt_map.specs.Absent.{Counted, IsMissing, is_shown}
-use Rattle.pt_map.specs.Answers.{AddsToHistory, FindsAbsent, FindsEach, HasNoEmptyTable, IsMapped, IsRefused, IsShortOf, IsWanting, KeepsPurse, WantsFrames, book_with, lacking, refusal_of, unknown, LinksAll}
+use Rattle.pt_map.specs.Answers.{AddsToHistory, FindsAbsent, FindsEach, IsMapped, IsRefused, IsShortOf, IsWanting, KeepsPurse, WantsFrames, book_with, lacking, refusal_of, unknown, LinksAll}
 use Rattle.pt_map.specs.Requests.{LacksFrames, MappedBelow, HasCause, RefusedBelow, occupied}
 use Rattle.pt_map.proofs.AbsentCounted.{own_on, shown_right}
 use Rattle.pt_map.proofs.BlocksAdded.{Apart, adds_pieces, in_order_from}
 use Rattle.pt_map.proofs.FirstMapped.{first_mapped, free_apart, none_mapped}
 use Rattle.pt_map.proofs.LackingTables.{absent_all, absent_few, absent_most, absent_shown, tables_more}
-use Rattle.pt_map.proofs.TablesAfter.{full_after, full_on, gains_on, tables_after}
+use Rattle.pt_map.specs.Replaced.{is_replaced, replaced}
+use Rattle.pt_map.proofs.TablesAfter.{tables_after}
 use Rattle.pt_tile.specs.Extents.{IsExtent, tables_below, tables_of, tiles}
 use Rattle.pt_map.specs.Stands.{IsOwnTable}
 use Rattle.pt_tile.proofs.FirstSizes.{extent_tiling}
@@ -54,7 +55,7 @@ pub record Standing (f : Layout) (tells : Type 0) (v d : View) (blocks : List Bl
   pub lawful : IsLawful f v.levels (book_of v blocks)
   pub owns : OwnsAll f v
   pub sorted : IsSorted v.tables
-  pub full : HasNoEmptyTable f v
+  pub aligned : (p : Position) → IsAmong v.tables p → p.base % pages_of_table f p.level ≡ 0
   pub extent : IsExtent f x
   pub start : f.start ≤ v.levels
   pub few : v.levels ≤ f.levels
@@ -125,14 +126,13 @@ module _ {f : Layout} (good : IsLayout f) {tells : Type 0} {v d : View} {blocks 
     pieces_after : w.pieces ≡ add_pieces f v.pieces (all_pieces f (tiles f x))
     pieces_after = m.pieces ∙ ap (λ (ps : List Piece). add_pieces f ps (all_pieces f (tiles f x))) stand.walked.book.pieces
 
-    tables_same : (p : Position) → IsAmong w.tables p ↔ (IsAmong v.tables p ⊎ (IsAmong (tables_of f x) p × (is_spine v.levels p ≡ false)))
-    tables_same p = gains_on v d w.tables (tables_of f x) p stand.walked.book.tables stand.walked.range.levels (m.tables p)
+    tables_same : (p : Position) → IsAmong w.tables p ↔ ((IsAmong v.tables p × (is_replaced f (tiles f x) p ≡ false)) ⊎ (IsAmong (tables_of f x) p × (is_spine v.levels p ≡ false)))
+    tables_same p =
+        subst (λ (l : ℕ). IsAmong w.tables p ↔ ((IsAmong v.tables p × (is_replaced f (tiles f x) p ≡ false)) ⊎ (IsAmong (tables_of f x) p × (is_spine l p ≡ false)))) stand.walked.range.levels
+        (subst (λ (ps : List Position). IsAmong w.tables p ↔ ((IsAmong ps p × (is_replaced f (tiles f x) p ≡ false)) ⊎ (IsAmong (tables_of f x) p × (is_spine d.levels p ≡ false)))) stand.walked.book.tables (m.tables p))
 
     sorted_after : IsSorted w.tables
     sorted_after = m.in_order (subst (λ (ps : List Position). IsSorted ps) (sym stand.walked.book.tables) stand.sorted)
-
-    pub full_mapped : HasNoEmptyTable f w
-    full_mapped = full_after good v stand.extent w stand.full pieces_after (λ p. (tables_same p).0)
 
     pub accepts : occupied f x (book_of v blocks) ≡ None
     accepts = ap (λ o. option_map (λ page. Occupied (byte_at f page)) o) (none_there m.free)
@@ -166,14 +166,15 @@ module _ {f : Layout} (good : IsLayout f) {tells : Type 0} {v d : View} {blocks 
         end = m.end ∙ stand.walked.purse.end ∙ stand.rest.end;
         pieces = blocks_after;
       };
-      tables = tables_after good v stand.extent blocks w.tables stand.start stand.few stand.full (free_here m.free) stand.sorted sorted_after tables_same;
+      tables = tables_after good v stand.extent blocks w.tables stand.start stand.few stand.aligned stand.sorted sorted_after tables_same;
       top = m.top ∙ stand.walked.book.top ∙ top_stays;
       frames = record {
         absent = length m.absent;
         found = found w m.absent (length m.absent) (omega arith) (let c = m.capped in let n = frames_same in omega arith) m.are_absent.once m.are_absent.missing m.shown;
+        freed = m.freed;
         drawn = m.drawn;
         linked = m.used;
-        purse = ap (λ (xs : List ℕ). m.drawn ++ xs) (sym purse_same) ∙ m.purse;
+        purse = ap (λ (xs : List ℕ). m.freed ++ (m.drawn ++ xs)) (sym purse_same) ∙ m.purse;
         few = (let a = m.few in let b = few in omega arith);
         spared = (let a = m.spared in let p : length d.purse ≡ length v.purse = ap length purse_same in omega arith);
       };
@@ -193,7 +194,14 @@ module _ {f : Layout} (good : IsLayout f) {tells : Type 0} {v d : View} {blocks 
           let top : w.top ≡ v.top = m.top ∙ stand.walked.book.top in
           let levels : w.levels ≡ v.levels = m.range.levels ∙ stand.walked.range.levels in
           let spine : length (levels_between (starting_top w.levels) w.top) ≡ length (levels_between (starting_top v.levels) v.top) = (λ i. length (levels_between (starting_top (levels i)) (top i))) in
-          record { enough = omega arith; linked = omega arith }
+          let gone : length (replaced f d (tiles f x)) ≡ length (replaced f v (tiles f x)) = ap (λ (ps : List Position). length (filter (is_replaced f (tiles f x)) ps)) stand.walked.book.tables in
+          let back = m.back a in let used = m.few in
+          let purse : length d.purse ≡ length v.purse = ap length purse_same in
+          let sum : length (m.freed ++ (m.drawn ++ d.purse)) ≡ length (m.used ++ w.purse) = ap length m.purse in
+          let left : length (m.freed ++ (m.drawn ++ d.purse)) ≡ length m.freed + (length m.drawn + length d.purse) =
+          length-append m.freed (m.drawn ++ d.purse) ∙ ap (λ (n : ℕ). length m.freed + n) (length-append m.drawn d.purse) in
+          let right = length-append m.used w.purse in
+          record { enough = omega arith; linked = omega arith; none_lost = omega arith }
 
   -- The extent was refused.
   module _ {alone : Type 0} {linked : ℕ} {w : View} {e : MapRefused} (r : RefusedBelow f tells alone linked d w x level e) where
@@ -212,9 +220,6 @@ module _ {f : Layout} (good : IsLayout f) {tells : Type 0} {v d : View} {blocks 
           grew = λ t. let g = s.grew t in grew_on w t g.0 (g.1, g.2);
           stores = λ t. s.stores t ∙ stand.walked.stores t;
         }
-
-    pub full_refused : HasNoEmptyTable f w
-    full_refused = full_on f v w (book_on stand.walked.book r.stays.book) stand.full
 
   pub keeps_purse : (w : View) (e : MapRefused) → KeepsPurse d w e → KeepsPurse v (rested w) e
   keeps_purse w (refused.NoFrames absent held) k = tt

@@ -1,6 +1,6 @@
 -- Tables that blocks take the place of.
 use Rattle.std.proofs.Common.{◌≡◌, ℕ, zero, suc, ◌+◌, ◌-◌, ◌*◌, ◌/◌, ◌%◌, ◌^◌, ◌<◌, ◌≤◌, Bool, true, false, List, [], ◌∷◌, ◌++◌, inl, inr, refl, ap, sym, subst, ◌∙◌, arith}
-use Rattle.std.specs.Prelude.{IsTrue, ◌&&◌, ◌||◌, nat_le, nat_lt}
+use Rattle.std.specs.Prelude.{IsTrue, ◌&&◌, ◌||◌, filter, length, nat_le, nat_lt, not}
 use Rattle.std.proofs.lemmas.Bool.{and_from, and_parts, cases_Bool, cases_lt, false_from_ne_true, false≢true, leb-true, le-leb, ltb-true, lt-ltb, or_cases, or_left, or_right}
 use Rattle.std.proofs.lemmas.List.Folds.{list_any-append}
 use Rattle.std.proofs.lemmas.Nat.{mod-mul-add, mod_below, mul-le, pow_pos, shr_split}
@@ -13,6 +13,7 @@ use Rattle.pt_model.specs.Layout.{Layout, end_of, level_of_size, pages_of_table}
 use Rattle.pt_model.specs.Sets.{IsAmong}
 use Rattle.pt_model.specs.Tables.{end_of_table, position_over, spine_position, starting_top}
 use Rattle.pt_model.specs.Tiling.{IsTiling, block_at}
+use Rattle.pt_model.proofs.Positions.{filter_in, filter_out}
 use Rattle.pt_format.specs.Laws.{IsLayout}
 use Rattle.pt_tile.specs.Runs.{run_blocks}
 use Rattle.pt_tile.specs.declared.extent.Extent.{Extent}
@@ -87,6 +88,16 @@ module _ (f : Layout) (p : Position) where
 -- one test or another fails
 pub or_false : (a b : Bool) → a ≡ false → b ≡ false → (a || b) ≡ false
 or_false a b e d = false_from_ne_true (a || b) (λ h. elim (or_cases a b h) [ inl x ↦ false≢true (sym e ∙ x) | inr y ↦ false≢true (sym d ∙ y) ])
+
+-- those that pass a test, and those that don't
+pub two_parts : (t : Position → Bool) (ps : List Position) → length (filter t ps) + length (filter (λ p. not (t p)) ps) ≡ length ps
+two_parts t [] = refl
+two_parts t (p ∷ ps) =
+    let rest : length (filter t ps) + length (filter (λ q. not (t q)) ps) ≡ length ps = two_parts t ps in
+    elim (cases_Bool (t p)) [
+      | inl e ↦ (let a = ap length (filter_in t p ps e) in let b = ap length (filter_out (λ q. not (t q)) p ps (ap not e)) in omega arith)
+      | inr e ↦ (let a = ap length (filter_out t p ps e) in let b = ap length (filter_in (λ q. not (t q)) p ps (ap not e)) in omega arith)
+    ]
 
 -- Runs of blocks.
 

@@ -3,7 +3,7 @@ use Rattle.pt_model.specs.Layout.{pages_of_entry}
 use Rattle.pt_tile.proofs.FirstSizes.{size_small}
 use Rattle.pt_view.specs.Views.{linked_count}
 use Rattle.pt_map.proofs.MapFromRoot.{Begun, Reached, clear_here, low_size, may_map, owns_root, range_root, to_table}
-use Rattle.pt_map.proofs.MapAnswers.{Done, accounts, answers, full_after, left_path, rests_after}
+use Rattle.pt_map.proofs.MapAnswers.{Done, accounts, answers, left_path, rests_after}
 use Rattle.pt_map.proofs.OneBlock.{block_end}
 use Rattle.pt_map.proofs.request.map_extent.Given.{Over}
 use Rattle.pt_map.proofs.request.map_extent.Goals.{After-INDEX, After-climb, After-descend-level, After-map_at-mapped}
@@ -57,9 +57,6 @@ climb-requires g c =
 
 pub returns-clause-rests : goal.returns-clause-rests
 returns-clause-rests g c = let at = goal.at.returns-clause-rests g c in rests_after g.met.F.Format.lawful_layout (done g at.After-climb (reached g at.After-descend-level (begun g at.After-INDEX)))
-
-pub returns-clause-full : goal.returns-clause-full
-returns-clause-full g c = let at = goal.at.returns-clause-full g c in full_after g.met.F.Format.lawful_layout (done g at.After-climb (reached g at.After-descend-level (begun g at.After-INDEX)))
 
 pub returns-clause-answered : goal.returns-clause-answered
 returns-clause-answered g c = let at = goal.at.returns-clause-answered g c in answers g.met.F.Format.lawful_layout (done g at.After-climb (reached g at.After-descend-level (begun g at.After-INDEX)))
