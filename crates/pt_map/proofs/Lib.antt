@@ -4,8 +4,10 @@ mod BlocksAdded
 mod FirstMapped
 -- Words of blocks, the tables that blocks need, and those that they take the place of.
 mod BlockWords
+mod TopsOver
 mod NeededTables
 mod ReplacedTables
+mod PastRoot
 mod LackingTables
 -- The numbers of a request, and where the way to its extent stands.
 mod RequestNumbers

@@ -38,7 +38,8 @@ use Rattle.pt_view.proofs.Members.{piece_at}
 use Rattle.pt_tile.proofs.FirstSizes.{size_greatest}
 use Rattle.pt_map.proofs.PathTables.{positions, tables_way, way_tables}
 use Rattle.pt_map.proofs.BlockWords.{first_whole, more_low, number_at, size_is, word_is}
-use Rattle.pt_map.proofs.WordsWritten.{among_off, block_part, may_leaf, may_put, top_reaches}
+use Rattle.pt_map.proofs.TopsOver.{top_of_pieces}
+use Rattle.pt_map.proofs.WordsWritten.{among_off, block_part, may_leaf, may_put}
 use Rattle.pt_tile.specs.Extents.{IsExtent, IsOneBlock, blocks_of, extent_of, first_size, tables_of, tiles}
 use Rattle.pt_tile.proofs.TileFacts.{one_greatest}
 use Rattle.pt_tile.proofs.Levels.{over_first}
@@ -187,7 +188,7 @@ module _ {f : Layout} (good : IsLayout f) {v : View} {b : Block} {count level : 
             elim (cases_lt p.level (length v.path + level)) [
               | inl on ↦ subst (IsAmong (positions v.path)) over (tables_way f b.first (length v.path + level) level v.path may.stands.way long p.level high on)
               | inr above ↦ absurd (
-                  let top = may.stands.top in let root = may.stands.high in
+                  let reach_root = may.stands.reach in
                   let reach = above_top f v.levels x.end p.level page.3 (omega arith) in
                   let least = top_low f v.levels x.end in let some = may.stands.at.extent.some in
                   let spine : is_spine v.levels (spine_position p.level) ≡ true =
@@ -360,18 +361,6 @@ module _ {f : Layout} (good : IsLayout f) {v : View} {b : Block} {count level : 
       are = are_pieces;
     }
 
-    -- the top reaches over each of its blocks
-    top_kept : (n : ℕ) → n ≤ count * 2 ^ bits → top_over f v.levels v.top (pieces_to b (2 ^ bits) n) ≡ v.top
-    top_kept zero few = refl
-    top_kept (suc n) few =
-        let reach = top_reaches good (block n (omega arith)) (may_block n (omega arith)) (one n (omega arith)) here in
-        let more : pieces_to b (2 ^ bits) (suc n) ≡ pieces_to b (2 ^ bits) n ++ piece_in b (2 ^ bits) n ∷ [] =
-        ap (pieces_to b (2 ^ bits)) (let e : suc n ≡ n + 1 = omega arith in e) ∙ map-range_with_len_more (piece_in b (2 ^ bits)) 0 n n (let z : 0 + n ≡ n = omega arith in z) in
-        ap (top_over f v.levels v.top) more
-        ∙ fold-append (λ (t : ℕ) (x : Piece). max t (least_top f v.levels (end_of x.block))) v.top (pieces_to b (2 ^ bits) n) (piece_in b (2 ^ bits) n ∷ [])
-        ∙ ap (λ (t : ℕ). max t (least_top f v.levels (end_of (block n (omega arith))))) (top_kept n (omega arith))
-        ∙ (let e : max v.top (least_top f v.levels (end_of (block n (omega arith)))) ≡ v.top = omega arith in e)
-
     -- they were written
     module _ {tells : Type 0} {w : View} (written : IsWrittenRun f tells number (count * 2 ^ bits) word step v w) where
       pub run_filled : Filled f tells v w (blocks_of count b) (tables_of f (extent_of count b))
@@ -382,7 +371,7 @@ module _ {f : Layout} (good : IsLayout f) {v : View} {b : Block} {count level : 
             path = written.path;
             prepared = written.prepared;
             end = written.purse.end;
-            top = written.top (piece_in b (2 ^ bits)) are_pieces ∙ top_kept (count * 2 ^ bits) (let e : count * 2 ^ bits ≤ count * 2 ^ bits = omega arith in e);
+            top = written.top (piece_in b (2 ^ bits)) are_pieces ∙ ap (top_over f v.levels v.top) all ∙ top_of_pieces f v.levels v.top (blocks_of count b);
             pieces = written.pieces (piece_in b (2 ^ bits)) are_pieces ∙ ap (add_pieces f v.pieces) all;
             tables = λ p.
                 let m = adds_are (off_spine v.levels v.path) v.tables p in

@@ -44,7 +44,6 @@ none_unlinked {f} bs none = loads_unlink (is_replaced f bs) loads_here refl none
 pub unlinks_keep : {f : Layout} (good : IsLayout f) {tells alone : Type 0} {v w : View} {x : Extent} → IsExtent f x → f.start ≤ v.levels → UnlinksReplaced f tells alone (tiles f x) v w → Keeps v w
 unlinks_keep good {v = v} part start u = record {
   range = u.range;
-  top = u.top;
   prepared = u.prepared;
   known = λ l low h. u.known (spine_position l) h (spine_stays good part v.levels start l low);
 }

@@ -47,9 +47,6 @@ module _ {f : Layout} (good : IsLayout f) {v : View} (b : Block) {level : ℕ} (
       subst (λ (bs : List Block). IsTiling f b.prot b.first b.out (end_of b - b.first) bs) one (tiling_is f b.prot b.first b.out (end_of b - b.first) good.has_pages (omega arith) part.in_output) in
       t.1.legal
 
-  pub top_reaches : least_top f v.levels (end_of b) ≤ v.top
-  top_reaches = may.stands.top
-
   -- a word of it
   module _ (i : ℕ) (less : i < 2 ^ (b.log2 - f.index * level)) where
     abbrev place : Position

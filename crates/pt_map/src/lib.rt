@@ -5,6 +5,7 @@
 //! that of the book machine, whatever other holders do between its steps. It takes no memory.
 #![tactic(auto)]
 
+mod beyond;
 mod entry;
 mod fill;
 mod refused;

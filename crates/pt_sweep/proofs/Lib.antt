@@ -4,3 +4,5 @@ pub mod Drawn
 pub mod Empties
 pub mod EmptyTables
 mod BookTables
+-- and a root that is raised level by level
+mod RootRaised

@@ -7,6 +7,8 @@
 
 mod empty;
 mod frames;
+mod root;
 
 pub use empty::{clear_empty, clear_tables};
 pub use frames::draw;
+pub use root::raise;
