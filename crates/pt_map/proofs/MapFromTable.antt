@@ -27,7 +27,7 @@ use Rattle.pt_tile.specs.declared.extent.Extent.{Extent}
 use Rattle.pt_map.specs.declared.refused.MapRefused.{MapRefused}
 use Rattle.pt_map.specs.Absent.{Counted, is_shown}
 use Rattle.pt_map.specs.Answers.{FindsEach, IsRefused}
-use Rattle.pt_map.specs.Filled.{HasNoPiece, MayStore, Fills, MayFill, HasRoom}
+use Rattle.pt_map.specs.Filled.{HasNoPiece, MayStore, Fills, MayFill, HasRoom, top_with}
 use Rattle.pt_map.specs.Requests.{Gathered, IsLackOf, LacksFrames, MappedBelow, MayMapBelow, HasFrames, RefusedBelow}
 use Rattle.pt_map.specs.Replaced.{HasNoneReplaced, MayMakeWay, UnlinksReplaced, is_replaced, replaced}
 use Rattle.pt_map.specs.Stands.{StandsAt}
@@ -121,7 +121,8 @@ module _ {f : Layout} (good : IsLayout f) {tells : Type 0} {v c g : View} {x : E
   stands_kept : StandsAt f g x level
   stands_kept =
       stands_moves good may.stands may.stands.at.extent (let e : x.first ≤ x.first = omega arith in e) (let e : x.end ≤ x.end = omega arith in e) may.stands.at.low
-      (record { range = range_kept; top = book_kept.top; prepared = prepared_kept; known = λ l low h. known_kept (spine_position l) h }) path_kept
+      (record { range = range_kept; prepared = prepared_kept; known = λ l low h. known_kept (spine_position l) h }) path_kept
+      (let t = book_kept.top in let h = may.stands.high in omega arith)
 
   -- way may be made for the extent
   pub may_make : IsFree f v x.first x.end → MayMakeWay f g x level
@@ -161,7 +162,7 @@ module _ {f : Layout} (good : IsLayout f) {tells : Type 0} {v c g : View} {x : E
         let few : f.start ≤ g.levels = (let l = may.levels in let e = range_kept.levels in omega arith) in
         record {
           stands = stands_moves good stands_kept may.stands.at.extent (let e : x.first ≤ x.first = omega arith in e) (let e : x.end ≤ x.end = omega arith in e) may.stands.at.low
-              (unlinks_keep good may.stands.at.extent few made) made.path;
+              (unlinks_keep good may.stands.at.extent few made) made.path (let t = made.top in let h = stands_kept.high in omega arith);
           no_piece = no_piece_kept f good v z x.first x.end may.owns (made.pieces ∙ book_kept.pieces) free;
           no_table = λ p m b here. replaced_none f p (tiles f x) ((left_tables p).0 m).1 b here;
         }
@@ -295,7 +296,7 @@ module _ {f : Layout} (good : IsLayout f) {tells : Type 0} {v c g : View} {x : E
             path = filled.path ∙ made.path ∙ path_kept;
             prepared = filled.prepared ∙ made.prepared ∙ prepared_kept;
             end = filled.end ∙ made.end ∙ gathered.place.end ∙ walked.purse.end;
-            top = filled.top ∙ made.top ∙ book_kept.top;
+            top = filled.top ∙ (λ i. top_with f (range.levels i) ((made.top ∙ book_kept.top) i) (tiles f x));
             pieces = filled.pieces ∙ ap (λ (ps : List Piece). add_pieces f ps (all_pieces f (tiles f x))) (made.pieces ∙ book_kept.pieces);
             tables = λ p. (
               (λ m. elim ((filled.tables p).0 m) [
