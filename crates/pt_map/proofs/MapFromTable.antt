@@ -34,7 +34,7 @@ use Rattle.pt_map.specs.Stands.{StandsAt}
 use Rattle.pt_map.proofs.NeededTables.{has_below}
 use Rattle.pt_map.proofs.ReplacedTables.{needed_stays, replaced_none, two_parts}
 use Rattle.pt_map.proofs.WayMade.{unlinks_keep}
-use Rattle.pt_model.proofs.Positions.{among_filtered, among_passes, filter_in, filter_out, sorted_filter}
+use Rattle.pt_model.proofs.Positions.{among_filtered, among_passes, sorted_filter}
 use Rattle.pt_view.proofs.Loads.{absences_on}
 use Rattle.pt_tile.specs.Extents.{tables_below, tiles}
 use Rattle.pt_map.proofs.StandAfter.{stands_moves}

@@ -1,5 +1,5 @@
 -- A map past the pages that the root reaches: the top is raised over them.
-use Rattle.std.specs.Prelude.{◌≡◌, ◌⊎◌, ◌↔◌, ℕ, ◌+◌, ◌-◌, ◌<◌, ◌≤◌, IsTrue, List, ◌∷◌, [], ◌++◌, false, length, map, max, min, not, ◌&&◌, filter, None, Result, Ok, Err}
+use Rattle.std.specs.Prelude.{◌≡◌, ◌⊎◌, ◌↔◌, ℕ, ◌+◌, ◌-◌, ◌<◌, ◌≤◌, IsTrue, List, ◌++◌, false, length, map, max, min, not, ◌&&◌, filter, None, Result, Ok, Err}
 use Rattle.pt_model.specs.declared.position.Position.{Position}
 use Rattle.pt_model.specs.Layout.{Layout, pages_of_table}
 use Rattle.pt_model.specs.Pages.{byte_at}
@@ -12,7 +12,6 @@ use Rattle.pt_view.specs.declared.view.Absence.{Absence}
 use Rattle.pt_view.specs.declared.view.Change.TheVariants.{Written}
 use Rattle.pt_view.specs.Calls.{IsRootAt}
 use Rattle.pt_view.specs.Lists.{IsIn}
-use Rattle.pt_view.specs.Loads.{AddsAbsences}
 use Rattle.pt_view.specs.Pieces.{add_pieces, all_pieces}
 use Rattle.pt_view.specs.Views.{SameRange}
 use Rattle.pt_walk.specs.Walks.{IsFree, IsLowest, OwnsAll}

@@ -6,7 +6,6 @@ use Rattle.pt_model.specs.declared.position.Position.{Position}
 use Rattle.pt_model.specs.Layout.{Layout, end_of, level_of_size}
 use Rattle.pt_model.specs.Sets.{IsAmong}
 use Rattle.pt_tile.specs.declared.extent.Extent.{Extent}
-use Rattle.pt_tile.specs.Extents.{tiles}
 use Rattle.pt_view.specs.declared.view.View.{View}
 use Rattle.pt_sweep.specs.Empties.{IsEmptyRange, Unlinks}
 use Rattle.pt_map.specs.Stands.{IsExtentAt}
