@@ -1,0 +1,2 @@
+//! AMD
+#![tactic(auto)]
