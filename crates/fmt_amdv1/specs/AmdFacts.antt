@@ -2,9 +2,9 @@
 use Rattle.std.proofs.Common.{◌≡◌, ◌≢◌, ℕ, zero, suc, ◌+◌, ◌-◌, ◌*◌, ◌/◌, ◌%◌, ◌^◌, ◌<◌, ◌≤◌, inl, inr, refl, ap, ap₂, subst, sym, ◌∙◌, arith, true, false}
 use Rattle.std.specs.Prelude.{IsTrue, nat_le, nat_lt, ◌==◌}
 use Rattle.std.specs.Int.{trailing_ones, w64}
-use Rattle.std.proofs.lemmas.Bool.{cases_eq, eq-eqb, lt-ltb, ne_eqb}
-use Rattle.std.proofs.lemmas.Nat.{mod_below, pow-add, pow_pos, shr_split}
-use Rattle.std.proofs.Math.Pow.{pow_mono}
+use Rattle.std.proofs.lemmas.Bool.{cases_eq, eq-eqb, le-leb, lt-ltb, ne_eqb}
+use Rattle.std.proofs.lemmas.Nat.{mod_below, pow-add, pow_pos, shr_high, shr_split}
+use native.Mathlib.Nat.{div-div-eq-div-mul}
 use Rattle.pt_model.specs.declared.block.Prot.{Prot}
 use Rattle.pt_model.specs.declared.block.Prot.TheVariants.{Read, ReadWrite}
 use Rattle.pt_model.specs.Layout.{is_common, may_read, may_write}
@@ -130,3 +130,72 @@ default_entry (suc zero) address prot low aligned =
 default_entry (suc (suc zero)) address prot low aligned =
     of_common (λ p. entry_at 3 address 0 (bits_of p) ≡ Page address 30 (may_read p) (may_write p)) (rw aligned refl) (rw aligned refl) prot
 default_entry (suc (suc (suc more))) address prot low aligned = absurd (omega arith)
+
+coded_entry : (level address log2 : ℕ) (prot : Prot) → IsSizeOf level log2 → 9 * level < log2 → lowest_clear address + 1 ≡ 12 + log2 → IsTrue (is_common prot) →
+    entry_at (level + 1) address 7 (bits_of prot) ≡ Page (address / 2 ^ (12 + log2) * 2 ^ (12 + log2)) (12 + log2) (may_read prot) (may_write prot)
+coded_entry level address log2 prot s past coded =
+    let low = s.low_level in let to = s.to in
+    let few : nat_le (level + 1) 3 ≡ true = le-leb _ _ (omega arith) in
+    let above : nat_lt (3 + 9 * (level + 1)) (12 + log2) ≡ true = lt-ltb _ _ (omega arith) in
+    let below : nat_lt (12 + log2) (9 + (3 + 9 * (level + 1))) ≡ true = lt-ltb _ _ (omega arith) in
+    of_common (λ p. entry_at (level + 1) address 7 (bits_of p) ≡ Page (address / 2 ^ (12 + log2) * 2 ^ (12 + log2)) (12 + log2) (may_read p) (may_write p))
+    (rw (few, coded, above, below) refl) (rw (few, coded, above, below) refl) prot
+
+pointer_entry : (level address : ℕ) → 0 < level → level < 6 → entry_at (level + 1) address level (bits_of ReadWrite) ≡ Next address true true
+pointer_entry zero address some few = absurd (omega arith)
+pointer_entry (suc zero) address some few = refl
+pointer_entry (suc (suc zero)) address some few = refl
+pointer_entry (suc (suc (suc zero))) address some few = refl
+pointer_entry (suc (suc (suc (suc zero)))) address some few = refl
+pointer_entry (suc (suc (suc (suc (suc zero))))) address some few = refl
+pointer_entry (suc (suc (suc (suc (suc (suc more)))))) address some few = absurd (omega arith)
+
+-- the beginning of a block, from a number in it
+pub begins : (log2 out number : ℕ) → out % 2 ^ log2 ≡ 0 → out ≤ number → number < out + 2 ^ log2 → number / 2 ^ log2 * 2 ^ log2 ≡ out
+begins log2 out number aligned from to =
+    let q : ℕ = out / 2 ^ log2 in
+    let whole : out ≡ q * 2 ^ log2 = omega (arith, shr_split out log2) in
+    let less : number - out < 2 ^ log2 = omega arith in
+    let is : number ≡ q * 2 ^ log2 + (number - out) = omega (arith, whole) in
+    let high : number / 2 ^ log2 ≡ q = ap (λ n. n / 2 ^ log2) is ∙ shr_high q log2 (number - out) less in
+    ap (λ n. n * 2 ^ log2) high ∙ sym whole
+
+-- the same of bytes
+begins_byte : (log2 out number : ℕ) → out % 2 ^ log2 ≡ 0 → out ≤ number → number < out + 2 ^ log2 →
+    number * 2 ^ 12 / 2 ^ (12 + log2) * 2 ^ (12 + log2) ≡ out * 2 ^ 12
+begins_byte log2 out number aligned from to =
+    let wide : 2 ^ (12 + log2) ≡ 2 ^ 12 * 2 ^ log2 = pow-add 2 12 log2 in
+    let pages : number * 2 ^ 12 / 2 ^ 12 ≡ number = omega arith in
+    let high : number * 2 ^ 12 / 2 ^ (12 + log2) ≡ number / 2 ^ log2 =
+    ap (λ n. number * 2 ^ 12 / n) wide ∙ sym (div-div-eq-div-mul (number * 2 ^ 12) (2 ^ 12) (2 ^ log2)) ∙ ap (λ n. n / 2 ^ log2) pages in
+    let there = begins log2 out number aligned from to in
+    ap₂ (λ a b. a * b) high wide ∙ omega (arith, there)
+
+-- the manual gives a leaf's page, of its size
+pub leaf_step : {level log2 out word : ℕ} {prot : Prot} → IsLeafOf level log2 out word prot →
+    step_at (level + 1) word ≡ Page (out * 2 ^ 12) (12 + log2) (may_read prot) (may_write prot)
+leaf_step {level} {log2} {out} {word} {prot} x =
+    let s = x.a_size in
+    elim (form_of level log2 out) [
+      | by_default same number next ↦
+          (let aligned : out % 2 ^ (9 * level) ≡ 0 = subst (λ k. out % 2 ^ k ≡ 0) same x.aligned in
+          by_parts level (leaf_parts x) ∙ ap₂ (λ n k. entry_at (level + 1) (n * 2 ^ 12) k (bits_of prot)) number next
+          ∙ default_entry level (out * 2 ^ 12) prot s.low_level (aligned_at level out s.low_level aligned) x.stated
+          ∙ ap (λ k. Page (out * 2 ^ 12) (12 + k) (may_read prot) (may_write prot)) (sym same))
+      | by_code other number next ↦
+          (let low = s.low_level in let from = s.from in let to = s.to in
+          let n : ℕ = number_of level log2 out in
+          let size : trailing_ones w64 n + 1 ≡ log2 = ap (λ i. trailing_ones w64 i + 1) number ∙ coded_size log2 out (omega arith) (omega arith) x.aligned x.within in
+          let pages : n * 2 ^ 12 / 2 ^ 12 ≡ n = omega arith in
+          let clear : trailing_ones w64 (n * 2 ^ 12 / 2 ^ 12) ≡ trailing_ones w64 n = ap (trailing_ones w64) pages in
+          let in_block = number_below level log2 out s in
+          by_parts level (leaf_parts x) ∙ ap (λ k. entry_at (level + 1) (n * 2 ^ 12) k (bits_of prot)) next
+          ∙ coded_entry level (n * 2 ^ 12) log2 prot s (omega arith) (omega (arith, clear, size)) x.stated
+          ∙ ap (λ a. Page a (12 + log2) (may_read prot) (may_write prot)) (begins_byte log2 out n x.aligned in_block.0 in_block.1))
+    ]
+
+pub pointer_step : {level word address : ℕ} → IsPointerOf level word address → step_at (level + 1) word ≡ Next address true true
+pointer_step {level} {word} {address} p =
+    let at = p.a_frame.address_is in
+    let pages : address / 2 ^ 12 * 2 ^ 12 ≡ address = omega arith in
+    by_parts level (pointer_parts p) ∙ pointer_entry level (address / 2 ^ 12 * 2 ^ 12) p.above p.below ∙ ap (λ a. Next a true true) pages
