@@ -55,7 +55,7 @@ number_below level log2 out size = elim (form_of level log2 out) [
       (omega (arith, number), omega (arith, number)))
 ]
 
-next_below : (level log2 : ℕ) → next_of level log2 < 8
+pub next_below : (level log2 : ℕ) → next_of level log2 < 8
 next_below level log2 = elim (form_of level log2 0) [
   | by_default same number next ↦ omega (arith, next)
   | by_code other number next ↦ omega (arith, next)

@@ -110,8 +110,8 @@ impl Format for AmdV1 {
     }
 
     fn out_of(level: u32, word: u64, page: u64) -> u64 {
-        let log2 = words::log2_in(level, word);
+        let pages = 1 << words::log2_in(level, word);
         let number = words::number_in(word);
-        ((number >> log2) << log2) + page % (1 << log2)
+        number - number % pages + page % pages
     }
 }

@@ -29,6 +29,7 @@ fn bits_of(prot: Prot) -> Entry
 fn word_of(number: u64, next: u64, prot: Prot) -> u64
     requires number { number < 2 ^ 40 }
     requires next { next < 2 ^ 3 }
+    requires stated { IsTrue (is_common prot) }
     ensures { result ≡ word_of number next prot }
 {
     let mut entry = Entry::from_bits_retain((number << 12) + (next << 9));
@@ -40,6 +41,7 @@ fn word_of(number: u64, next: u64, prot: Prot) -> u64
 pub fn leaf_word(level: u32, log2: u32, out: u64, prot: Prot) -> u64
     requires a_size { IsSizeOf level log2 }
     requires within { out + 2 ^ log2 ≤ 2 ^ 40 }
+    requires stated { IsTrue (is_common prot) }
     ensures { result ≡ leaf level log2 out prot }
 {
     if log2 == 9 * level {
@@ -85,8 +87,7 @@ pub fn next_level_in(word: u64) -> u64
 /// The size of a leaf, as the log2 of its pages.
 pub fn log2_in(level: u32, word: u64) -> u32
     requires { level < 6 }
-    ensures log2 { result ≡ AmdWords.log2_in level word }
-    ensures within { result ≤ 64 }
+    ensures { result ≡ AmdWords.log2_in level word }
 {
     if next_level_in(word) == CODED {
         number_in(word).trailing_ones() + 1
@@ -116,7 +117,8 @@ pub fn read_size(level: u32, word: u64) -> Option<u32>
     if level > 2 || log2 / 9 != level {
         return None;
     }
-    let out = (number_in(word) >> log2) << log2;
+    let number = number_in(word);
+    let out = number - number % (1 << log2);
     if word == leaf_word(level, log2, out, permission_in(word)) {
         Some(log2)
     } else {
