@@ -13,6 +13,7 @@ use Rattle.pt_format.proofs.Permissions.{of_common}
 use Rattle.pt_manual.specs.EntryBits.{is_aligned}
 use Rattle.pt_manual.specs.AmdWalk.{entry_at, lowest_clear, next_level, others_in, step_at}
 use Rattle.pt_manual.specs.declared.step.Step.TheVariants.{Page, Next}
+use Rattle.fmt_nine_bit.proofs.EntryFacts.{aligned_at}
 use Rattle.fmt_amdv1.specs.AmdWords.{IsLeafOf, IsPointerOf, IsSizeOf, bits_of, leaf, log2_in, next_of, number_in, number_of, pointer, word_of}
 
 -- what stands in the fields of a word
@@ -114,12 +115,6 @@ by_parts : (level : ℕ) {word number next : ℕ} {prot : Prot} → HasParts wor
 by_parts level {word} {number} {next} {prot} p =
     ap (λ n. entry_at (level + 1) (n * 2 ^ 12) (next_level word) (others_in word)) p.number_is
     ∙ ap₂ (λ n b. entry_at (level + 1) (number * 2 ^ 12) n b) p.next_is p.others_are
-
-aligned_at : (level out : ℕ) → level < 3 → out % 2 ^ (9 * level) ≡ 0 → is_aligned (12 + 9 * level) (out * 2 ^ 12) ≡ true
-aligned_at zero out low aligned = eq-eqb _ _ (omega arith)
-aligned_at (suc zero) out low aligned = eq-eqb _ _ (omega arith)
-aligned_at (suc (suc zero)) out low aligned = eq-eqb _ _ (omega arith)
-aligned_at (suc (suc (suc more))) out low aligned = absurd (omega arith)
 
 default_entry : (level address : ℕ) (prot : Prot) → level < 3 → is_aligned (12 + 9 * level) address ≡ true → IsTrue (is_common prot) →
     entry_at (level + 1) address 0 (bits_of prot) ≡ Page address (12 + 9 * level) (may_read prot) (may_write prot)

@@ -15,10 +15,11 @@ use Rattle.pt_format.specs.Laws.{HasConstants, IsLayout, WordsDiffer}
 use Rattle.pt_format.specs.Manual.{IsRooted, IsWalk, StepsAgree, by_steps}
 use Rattle.pt_format.proofs.Permissions.{of_common}
 use Rattle.pt_manual.specs.Granting.{allowed}
-use Rattle.pt_manual.specs.NineBitWalk.{walk_from}
-use Rattle.pt_manual.specs.AmdWalk.{manual, mode, next_level, others_in, walk}
+use Rattle.pt_manual.specs.AmdWalk.{manual, mode, next_level}
+use Rattle.pt_manual.proofs.AmdFacts.{rooted, walk_is}
 use Rattle.fmt_nine_bit.specs.OverPages.{found, found_page, reached, step_by}
 use Rattle.fmt_nine_bit.specs.ManualLayout.{IsReadBy}
+use Rattle.fmt_nine_bit.proofs.BlockFacts.{in_block}
 use Rattle.fmt_nine_bit.proofs.NineBitWalks.{granted_is, near, unpicked, walks_from}
 use Rattle.fmt_amdv1.specs.AmdWords.{IsLeafOf, IsPointerOf, bits_of, layout, leaf, log2_in, next_of, pointer, words}
 use Rattle.fmt_amdv1.specs.Sizes.{of_size, size_of}
@@ -95,29 +96,6 @@ words_differ = record {
       (sym (leaf_log2 x) ∙ leaf_log2 y, one_permission p q x.stated y.stated (sym (leaf_parts x).others_are ∙ (leaf_parts y).others_are));
 }
 
--- the place of a page in its block
-place : (m first here : ℕ) → first % m ≡ 0 → first ≤ here → here < first + m → here % m ≡ here - first
-place m first here aligned from to =
-    let whole = div-add-mod first m in
-    let less : here - first < m = omega arith in
-    let is : here ≡ first / m * m + (here - first) = omega (arith, whole) in
-    ap (λ n. n % m) is ∙ mod-mul-add (first / m) m (here - first) less
-
--- the parts of a block lie in it
-part_room : (log2 entry part : ℕ) → entry ≤ log2 → part < 2 ^ (log2 - entry) → (part + 1) * 2 ^ entry ≤ 2 ^ log2
-part_room log2 entry part from low =
-    let split : log2 - entry + entry ≡ log2 = omega arith in
-    let wide : 2 ^ log2 ≡ 2 ^ (log2 - entry) * 2 ^ entry = ap (λ (k : ℕ). 2 ^ k) (sym split) ∙ pow-add 2 (log2 - entry) entry in
-    let most = mul-le (part + 1) (2 ^ entry) (2 ^ (log2 - entry)) (2 ^ entry) (omega arith) (omega arith) in
-    omega (arith, wide, most)
-
-in_block : {level log2 out part first here : ℕ} {prot : Prot} → MayBeLeaf layout level log2 out prot part →
-    IsUnder layout level log2 first part here → here % 2 ^ log2 ≡ here - first
-in_block {level} {log2} {out} {part} {first} {here} may under =
-    let room = part_room log2 (9 * level) part (size_of level log2 may.a_size may.at_level).from may.a_part in
-    let from = under.from in let to = under.to in
-    place (2 ^ log2) first here under.aligned (omega arith) (omega arith)
-
 -- the page that the manual's step finds at a leaf
 pub leaf_found : {level log2 out word : ℕ} {prot : Prot} (here : ℕ) → IsLeafOf level log2 out word prot →
     step_by manual level word here ≡ page (out + here % 2 ^ log2) prot
@@ -133,7 +111,7 @@ steps_agree = record {
   empty = λ level here low. refl;
   pointer = λ level address here at frame. ap (found here) (pointer_step (pointer_of at frame (pointer level address) refl));
   leaf = λ level log2 out part first here prot may under.
-      leaf_found here (leaf_of may (leaf level log2 out prot) refl) ∙ ap (λ (n : ℕ). page (out + n) prot) (in_block may under);
+      leaf_found here (leaf_of may (leaf level log2 out prot) refl) ∙ ap (λ (n : ℕ). page (out + n) prot) (in_block (size_of level log2 may.a_size may.at_level).from may under);
   any_page = λ level word log2 here prot l within.
       record {
         out = l.out + here % 2 ^ log2;
@@ -156,14 +134,6 @@ is_read_by = record {
   pointer_is = λ level word address p. pointer_step (pointer_of p.at_level p.a_frame word p.word_is);
 }
 
--- a root of three to six levels
-rooted : (words : List ℕ) → IsRooted layout words →
-    (nat_lt (root_frame words) (frames_of 9 (length words)) && (nat_le 3 (mode words) && nat_le (mode words) 6)) ≡ true
-rooted words r =
-    let high : mode words ≤ 6 = let low = r.low in omega arith in
-    and_from (nat_lt (root_frame words) (frames_of 9 (length words))) _ (lt-ltb _ _ r.a_frame)
-    (and_from (nat_le 3 (mode words)) _ (le-leb _ _ r.high) (le-leb _ _ high))
-
 pub is_walk : IsWalk layout
 is_walk = record {
   no_page = λ words address r small e. absurd
@@ -175,14 +145,15 @@ is_walk = record {
       let wide : 2 ^ (12 + 9 * mode words) ≡ 2 ^ 12 * 2 ^ (9 * mode words) = pow-add 2 12 (9 * mode words) in
       let at = n.1 in
       let past : nat_le (2 ^ (12 + 9 * mode words)) address ≡ true = le-leb _ _ (omega arith) in
-      rw (rooted words r, past) refl;
+      rw (rooted words r.a_frame r.high (high words r), past) refl;
   walks = λ words address here under way.
       let r = under.rooted in
       let n = near is_read_by address here under.at_page in
       let wide : 2 ^ (12 + 9 * mode words) ≡ 2 ^ 12 * 2 ^ (9 * mode words) = pow-add 2 12 (9 * mode words) in
       let at = n.1 in let below = under.under_root in
-      let past : nat_le (2 ^ (12 + 9 * mode words)) address ≡ false = lt-leb _ _ (omega arith) in
-      let begins : reached (walk words address) ≡ reached (walk_from manual words address (mode words) (root_frame words) true true) =
-      rw (rooted words r, past) refl in
-      begins ∙ walks_from is_read_by words address here n.1 (mode words) (root_frame words) way;
+      ap reached (walk_is words address r.a_frame r.high (high words r) (omega arith))
+      ∙ walks_from is_read_by words address here n.1 (mode words) (root_frame words) way;
 }
+  where
+    high : (words : List ℕ) → IsRooted layout words → mode words ≤ 6
+    high words r = let low = r.low in omega arith
