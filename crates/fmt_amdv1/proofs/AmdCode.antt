@@ -1,24 +1,24 @@
 -- Words of AMD tables, as code makes and reads them.
-use Rattle.std.proofs.Common.{◌≡◌, ◌≢◌, ℕ, ◌+◌, ◌-◌, ◌*◌, ◌/◌, ◌%◌, ◌^◌, ◌<◌, ◌≤◌, ◌↔◌, inl, inr, refl, ap, ap₂, sym, ◌∙◌, subst, arith, true, false}
+use Rattle.std.proofs.Common.{◌≡◌, ℕ, ◌+◌, ◌-◌, ◌*◌, ◌/◌, ◌%◌, ◌^◌, ◌<◌, ◌≤◌, ◌↔◌, inl, inr, refl, ap, ap₂, sym, ◌∙◌, subst, arith, true, false}
 use Rattle.std.specs.Prelude.{IsTrue, IsBitSet, bit_and, bit_or, ◌==◌}
 use Rattle.std.specs.Int.{bit_at}
 use Rattle.std.specs.Int.Bits.{or_shifted_r, or_zero_l, and_zero_r}
-use Rattle.std.proofs.lemmas.Bool.{both_ways, cases_lt}
+use Rattle.std.proofs.lemmas.Bool.{cases_lt}
 use Rattle.std.proofs.lemmas.Nat.{and_block, mod_below, mod_low, mul-le, or_block, pow-add, pow_pos, shr_split}
 use Rattle.std.proofs.Math.Nat.{div-mul-le_self}
 use native.Mathlib.Nat.{div-eq_of_lt}
 use Rattle.std.proofs.lemmas.Nat.Bits.{bit_at-zero, bit_at_cat_high, bit_at_cat_low, bit_at_ones, bit_at_ones_above}
 use Rattle.pt_model.specs.declared.block.Prot.{Prot}
 use Rattle.pt_model.specs.declared.block.Prot.TheVariants.{Read, ReadWrite}
-use Rattle.pt_model.specs.Layout.{is_common, is_size, level_of_size, page}
+use Rattle.pt_model.specs.Layout.{is_common, page}
 use Rattle.pt_format.specs.Words.{GoBy, HasSizes, IsLeaf, IsPointer, IsWritten, MayBeLeaves, a_leaf, a_pointer}
 use Rattle.pt_format.specs.Manual.{IsOutput}
-use Rattle.pt_format.proofs.BitFacts.{and_end, set_bit}
+use Rattle.pt_format.proofs.BitFacts.{set_bit}
 use Rattle.pt_format.proofs.Permissions.{of_common}
 use Rattle.pt_manual.specs.AmdWalk.{next_level}
-use Rattle.fmt_amdv1.specs.AmdWords.{IsLeafOf, IsPointerOf, IsSizeOf, bits_of, layout, leaf, log2_in, next_of, number_in, number_of, word_of}
+use Rattle.fmt_amdv1.specs.AmdWords.{IsLeafOf, bits_of, layout, leaf, log2_in, next_of, number_in, number_of, word_of}
 use Rattle.fmt_amdv1.specs.Sizes.{of_size, size_of}
-use Rattle.fmt_amdv1.specs.AmdFacts.{begins, by_code, by_default, form_of, leaf_log2, leaf_parts, next_below, number_below, pointer_parts}
+use Rattle.fmt_amdv1.specs.AmdFacts.{begins, by_code, by_default, form_of, leaf_log2, leaf_parts, next_below, number_below}
 use Rattle.fmt_amdv1.specs.AmdLaws.{leaf_found, leaf_next, leaf_of, pointer_next, pointer_of}
 
 -- bits at both ends of a word, around its fields

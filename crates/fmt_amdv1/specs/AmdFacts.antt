@@ -3,10 +3,10 @@ use Rattle.std.proofs.Common.{◌≡◌, ◌≢◌, ℕ, zero, suc, ◌+◌, ◌
 use Rattle.std.specs.Prelude.{IsTrue, nat_le, nat_lt, ◌==◌}
 use Rattle.std.specs.Int.{trailing_ones, w64}
 use Rattle.std.proofs.lemmas.Bool.{cases_eq, eq-eqb, le-leb, lt-ltb, ne_eqb}
-use Rattle.std.proofs.lemmas.Nat.{mod_below, pow-add, pow_pos, shr_high, shr_split}
+use Rattle.std.proofs.lemmas.Nat.{pow-add, pow_pos, shr_high, shr_split}
 use native.Mathlib.Nat.{div-div-eq-div-mul}
 use Rattle.pt_model.specs.declared.block.Prot.{Prot}
-use Rattle.pt_model.specs.declared.block.Prot.TheVariants.{Read, ReadWrite}
+use Rattle.pt_model.specs.declared.block.Prot.TheVariants.{ReadWrite}
 use Rattle.pt_model.specs.Layout.{is_common, may_read, may_write}
 use Rattle.pt_format.proofs.BitFacts.{coded_ones}
 use Rattle.pt_format.proofs.Permissions.{of_common}
@@ -14,7 +14,7 @@ use Rattle.pt_manual.specs.EntryBits.{is_aligned}
 use Rattle.pt_manual.specs.AmdWalk.{entry_at, lowest_clear, next_level, others_in, step_at}
 use Rattle.pt_manual.specs.declared.step.Step.TheVariants.{Page, Next}
 use Rattle.fmt_nine_bit.proofs.EntryFacts.{aligned_at}
-use Rattle.fmt_amdv1.specs.AmdWords.{IsLeafOf, IsPointerOf, IsSizeOf, bits_of, leaf, log2_in, next_of, number_in, number_of, pointer, word_of}
+use Rattle.fmt_amdv1.specs.AmdWords.{IsLeafOf, IsPointerOf, IsSizeOf, bits_of, log2_in, next_of, number_in, number_of, word_of}
 
 -- what stands in the fields of a word
 pub record HasParts (word number next : ℕ) (prot : Prot) : Type 0 where

@@ -1,18 +1,15 @@
 -- The laws of AMD tables.
-use Rattle.std.proofs.Common.{◌≡◌, ◌≢◌, ℕ, ◌+◌, ◌-◌, ◌*◌, ◌/◌, ◌%◌, ◌^◌, ◌<◌, ◌≤◌, refl, ap, ap₂, subst, sym, ◌∙◌, arith, List, Some, None, Bool, true, false}
-use Rattle.std.specs.Prelude.{IsTrue, length, nat_le, nat_lt, ◌&&◌}
-use Rattle.std.proofs.lemmas.Bool.{and_from, le-leb, lt-leb, lt-ltb}
-use Rattle.std.proofs.lemmas.Nat.{mod_below, mod-mul-add, mul-le, pow-add, pow_pos}
-use Rattle.std.proofs.Math.Nat.{div-add-mod}
-use Rattle.std.proofs.Math.Pow.{pow_mono}
+use Rattle.std.proofs.Common.{◌≡◌, ℕ, ◌+◌, ◌-◌, ◌*◌, ◌/◌, ◌%◌, ◌^◌, ◌<◌, ◌≤◌, refl, ap, sym, ◌∙◌, arith, List, true, false}
+use Rattle.std.specs.Prelude.{IsTrue, nat_le, nat_lt}
+use Rattle.std.proofs.lemmas.Bool.{le-leb, lt-ltb}
+use Rattle.std.proofs.lemmas.Nat.{mod_below, pow-add, pow_pos}
 use Rattle.pt_model.specs.declared.block.Prot.{Prot}
 use Rattle.pt_model.specs.declared.block.Prot.TheVariants.{Read, ReadWrite}
-use Rattle.pt_model.specs.Layout.{is_common, is_size, level_of_size, may_read, may_write, page}
-use Rattle.pt_model.specs.Pages.{page_at}
-use Rattle.pt_model.specs.Words.{frames_of, root_frame, root_level}
-use Rattle.pt_format.specs.Words.{MayBeLeaf, IsUnder, IsTableAddress, IsTableLevel}
+use Rattle.pt_model.specs.Layout.{is_common, level_of_size, may_read, may_write, page}
+use Rattle.pt_model.specs.Words.{root_frame}
+use Rattle.pt_format.specs.Words.{MayBeLeaf, IsTableAddress, IsTableLevel}
 use Rattle.pt_format.specs.Laws.{HasConstants, IsLayout, WordsDiffer}
-use Rattle.pt_format.specs.Manual.{IsRooted, IsWalk, StepsAgree, by_steps}
+use Rattle.pt_format.specs.Manual.{IsRooted, IsWalk, StepsAgree}
 use Rattle.pt_format.proofs.Permissions.{of_common}
 use Rattle.pt_manual.specs.Granting.{allowed}
 use Rattle.pt_manual.specs.AmdWalk.{manual, mode, next_level}
@@ -21,9 +18,9 @@ use Rattle.fmt_nine_bit.specs.OverPages.{found, found_page, reached, step_by}
 use Rattle.fmt_nine_bit.specs.ManualLayout.{IsReadBy}
 use Rattle.fmt_nine_bit.proofs.BlockFacts.{in_block}
 use Rattle.fmt_nine_bit.proofs.NineBitWalks.{granted_is, near, unpicked, walks_from}
-use Rattle.fmt_amdv1.specs.AmdWords.{IsLeafOf, IsPointerOf, bits_of, layout, leaf, log2_in, next_of, pointer, words}
-use Rattle.fmt_amdv1.specs.Sizes.{of_size, size_of}
-use Rattle.fmt_amdv1.specs.AmdFacts.{HasForm, by_code, by_default, form_of, leaf_log2, leaf_parts, leaf_step, pointer_parts, pointer_step}
+use Rattle.fmt_amdv1.specs.AmdWords.{IsLeafOf, IsPointerOf, bits_of, layout, leaf, pointer, words}
+use Rattle.fmt_amdv1.specs.Sizes.{size_of}
+use Rattle.fmt_amdv1.specs.AmdFacts.{by_code, by_default, form_of, leaf_log2, leaf_parts, leaf_step, pointer_parts, pointer_step}
 
 pub has_constants : HasConstants layout 12 9 64 52 3 6 true false
 has_constants =

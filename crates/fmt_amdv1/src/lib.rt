@@ -21,3 +21,6 @@ mod words;
 
 pub use entry::Entry;
 pub use instances::AmdV1;
+
+#[cfg(test)]
+mod tests;

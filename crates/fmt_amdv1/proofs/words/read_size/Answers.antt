@@ -1,6 +1,6 @@
-use Rattle.std.proofs.Common.{◌≡◌, ◌+◌, ◌-◌, ◌*◌, ◌/◌, ◌%◌, ◌^◌, ◌<◌, ◌≤◌, ◌∙◌, ap, ap₂, sym, subst, arith}
+use Rattle.std.proofs.Common.{◌≡◌, ◌-◌, ◌*◌, ◌/◌, ◌%◌, ◌^◌, ◌<◌, ◌∙◌, ap, ap₂, sym, subst, arith}
 use Rattle.std.proofs.lemmas.Nat.{one_shl}
-use Rattle.fmt_amdv1.specs.AmdWords.{IsSizeOf, leaf, number_in}
+use Rattle.fmt_amdv1.specs.AmdWords.{leaf, number_in}
 use Rattle.fmt_amdv1.specs.AmdFacts.{leaf_log2}
 use Rattle.fmt_amdv1.proofs.AmdCode.{block_room, block_whole, leaf_first}
 use Rattle.fmt_amdv1.proofs.words.read_size.Goals as goal
@@ -35,14 +35,17 @@ returns-then-word-leaf_word c =
     let low = c.if-level-gt2.false in let at = c.if-log2-level.false in
     let word : c.args.word ≡ leaf c.args.level c.log2_in-log2.result
     (c.number_in-number.result - c.number_in-number.result % (1 * 2 ^ c.log2_in-log2.result % 2 ^ 64)) c.permission_in.result =
-    c.if-word-leaf_word.true ∙ c.leaf_word.ensures in
-    (c.number_in-number.result - c.number_in-number.result % 2 ^ c.log2_in-log2.result, c.permission_in.result, record {
-      a_size = record { low_level = omega arith; from = omega arith; to = omega arith };
-      aligned = block_whole c.log2_in-log2.result c.number_in-number.result;
-      within = block_room c.log2_in-log2.result c.number_in-number.result (omega (arith, few a)) c.number_in-number.ensures.within;
-      stated = c.permission_in.ensures.stated;
-      word_is = rw pages at word;
-    })
+    c.if-word-leaf_word.true ∙ c.leaf_word.ensures in (
+      c.number_in-number.result - c.number_in-number.result % 2 ^ c.log2_in-log2.result,
+      c.permission_in.result,
+      record {
+        a_size = record { low_level = omega arith; from = omega arith; to = omega arith };
+        aligned = block_whole c.log2_in-log2.result c.number_in-number.result;
+        within = block_room c.log2_in-log2.result c.number_in-number.result (omega (arith, few a)) c.number_in-number.ensures.within;
+        stated = c.permission_in.ensures.stated;
+        word_is = rw pages at word;
+      },
+    )
 
 pub returns-else-word-leaf_word : goal.returns-else-word-leaf_word
 returns-else-word-leaf_word c = λ log2 out prot x.

@@ -1,4 +1,4 @@
-use Rattle.std.proofs.Common.{◌≡◌, ◌+◌, ◌%◌, ◌<◌, ◌≤◌, inl, inr, arith, rules}
+use Rattle.std.proofs.Common.{◌+◌, ◌%◌, inl, inr}
 use Rattle.std.proofs.lemmas.Bool.{leb-true, cases_lt, le-leb}
 use Rattle.fmt_amdv1.proofs.AmdCode.{leaf_by_next, pointer_by_next}
 use Rattle.fmt_amdv1.proofs.instances.AmdV1Format.is_leaf.Goals as goal

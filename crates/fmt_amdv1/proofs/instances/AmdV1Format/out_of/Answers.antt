@@ -1,4 +1,4 @@
-use Rattle.std.proofs.Common.{◌≡◌, ℕ, ◌+◌, ◌-◌, ◌*◌, ◌%◌, ◌^◌, ◌<◌, ◌∙◌, sym, arith}
+use Rattle.std.proofs.Common.{◌≡◌, ◌*◌, ◌%◌, ◌^◌, ◌<◌, arith}
 use Rattle.std.proofs.lemmas.Nat.{one_shl, pow_pos}
 use Rattle.fmt_amdv1.proofs.AmdCode.{leaf_few, output_is, within}
 use Rattle.fmt_amdv1.proofs.instances.AmdV1Format.out_of.Goals as goal

@@ -1,4 +1,4 @@
-use Rattle.std.proofs.Common.{◌≡◌, subst, sym}
+use Rattle.std.proofs.Common.{subst, sym}
 use Rattle.pt_format.specs.Words.{IsLeaf}
 use Rattle.fmt_amdv1.specs.AmdWords.{layout}
 use Rattle.fmt_amdv1.specs.AmdLaws.{leaf_of, pointer_of}
