@@ -5,3 +5,5 @@ pub mod VtdCases
 pub mod X86Cases
 pub mod RiscvCases
 pub mod AmdCases
+pub mod VmsaFacts
+pub mod VmsaCases

@@ -5,3 +5,4 @@ pub mod VtdWalk
 pub mod X86Walk
 pub mod RiscvWalk
 pub mod AmdWalk
+pub mod VmsaWalk

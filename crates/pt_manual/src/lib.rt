@@ -5,8 +5,10 @@
 //! I/O, Architecture Specification, second-stage translation), `walk_x86` that of x86-64 tables (Intel 64
 //! and IA-32 Architectures Software Developer's Manual, volume 3, paging), `walk_riscv` that of RISC-V tables
 //! (Privileged Architecture, virtual address translation), `walk_amdv1` that of AMD tables (AMD I/O Virtualization
-//! Technology Specification, I/O page tables for host translations). All take nine index bits at each level, AND the
-//! permissions along the way, and differ in what an entry says. AMD's root says how many levels there are.
+//! Technology Specification, I/O page tables for host translations). These take nine index bits at each level, AND the
+//! permissions along the way, and differ in what an entry says; AMD's root says how many levels there are. `walk_vmsa`
+//! is that of VMSAv8-64 tables (Arm Architecture Reference Manual for A-profile architecture, the AArch64 virtual
+//! memory system), whose index bits go by the granule.
 //!
 //! The words are a root, a tag for each frame, and the frames. An entry that is present and of no form of
 //! the profile is alien, at the level of its table; so is a pointer past the frames, and a bad root.
@@ -17,9 +19,12 @@
 
 mod amd;
 mod bits;
+mod descriptor;
+mod granule;
 mod riscv;
 mod space;
 mod step;
+mod vmsa;
 mod vtd;
 mod walk;
 mod walked;
@@ -27,6 +32,7 @@ mod x86;
 
 pub use amd::walk_amdv1;
 pub use riscv::walk_riscv;
+pub use vmsa::walk_vmsa;
 pub use vtd::walk_vtdss;
 pub use walked::Walked;
 pub use x86::walk_x86;
