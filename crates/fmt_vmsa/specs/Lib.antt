@@ -1,1 +1,3 @@
 pub mod VmsaWords
+pub mod Granules
+pub mod VmsaFacts

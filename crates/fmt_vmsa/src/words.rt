@@ -79,6 +79,7 @@ fn leaf_bits(level: u32, prot: Prot) -> Entry
 pub fn entry_word(granule: u32, level: u32, own: u64, prot: Prot, contiguous: bool) -> u64
     requires a_granule { IsGranule granule }
     requires within { own < 2 ^ (48 - granule) }
+    requires stated { IsTrue (is_common prot) }
     ensures { result ≡ VmsaWords.entry_word granule level own prot contiguous }
 {
     let mut entry = Entry::from_bits_retain(own << granule);
