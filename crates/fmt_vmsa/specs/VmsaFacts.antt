@@ -36,6 +36,10 @@ module _ {granule : ℕ} (is : IsGranule granule) (own low : ℕ) (within : own 
   pub others_of : (contiguous : Bool) → others_in granule (own * 2 ^ granule + (low + in_group contiguous)) ≡ low + in_group contiguous
   others_of contiguous = let address = address_of contiguous in omega (arith, address)
 
+  pub low_of : (contiguous : Bool) → (own * 2 ^ granule + (low + in_group contiguous)) % 2 ^ 12 ≡ low
+  low_of true = by_granule (λ g. (own * 2 ^ g + (low + 2 ^ 52)) % 2 ^ 12 ≡ low) (omega arith) (omega arith) (omega arith) is
+  low_of false = by_granule (λ g. (own * 2 ^ g + (low + 0)) % 2 ^ 12 ≡ low) (omega arith) (omega arith) (omega arith) is
+
 -- the size of what is under an entry, by the manual's level
 entry_bytes : (granule level : ℕ) → level < 4 → entry_log2 granule (3 - level) ≡ granule + entry_size granule level
 entry_bytes granule level low =

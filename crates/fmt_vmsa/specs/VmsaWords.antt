@@ -6,7 +6,7 @@ use Rattle.std.specs.Prelude.{◌≡◌, ℕ, ◌+◌, ◌-◌, ◌*◌, ◌/◌
 use Rattle.pt_model.specs.declared.block.Prot.{Prot}
 use Rattle.pt_model.specs.Layout.{Layout, Found, nothing, page, table, alien, is_common, may_write}
 use Rattle.pt_format.specs.Words.{IsFrameAddress}
-use Rattle.pt_manual.specs.VmsaWalk.{AP2, BLOCK, CONTIGUOUS, TABLE, VALID, descriptor_at, index_bits, start_level, walk}
+use Rattle.pt_manual.specs.VmsaWalk.{AP2, BLOCK, CONTIGUOUS, IsGranule, TABLE, VALID, descriptor_at, index_bits, start_level, walk}
 use Rattle.pt_manual.specs.declared.descriptor.Descriptor.{Descriptor}
 use Rattle.pt_manual.specs.declared.descriptor.Descriptor.TheVariants.{Invalid, Reserved, Table, Page}
 use Rattle.fmt_nine_bit.specs.OverPages.{reached}
@@ -104,7 +104,7 @@ IsNoEntry granule level word = (own : ℕ) (prot : Prot) (contiguous : Bool) →
 abbrev pub IsNoPointer : (granule level word : ℕ) → Type 0
 IsNoPointer granule level word = (address : ℕ) → ¬ IsPointerOf granule level word address
 
--- where a word is an entry of a leaf, this is its permission, its block's size, or whether it is of a group
+-- where a word is an entry of a leaf, this is its permission
 abbrev pub IsPermissionIn : (word : ℕ) (result : Prot) → Type 0
 IsPermissionIn word result =
-    (granule level own : ℕ) (prot : Prot) (contiguous : Bool) → IsEntry granule level own word prot contiguous → result ≡ prot
+    (granule level own : ℕ) (prot : Prot) (contiguous : Bool) → IsGranule granule → IsEntry granule level own word prot contiguous → result ≡ prot
