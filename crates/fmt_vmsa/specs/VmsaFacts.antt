@@ -40,6 +40,12 @@ module _ {granule : ℕ} (is : IsGranule granule) (own low : ℕ) (within : own 
   low_of true = by_granule (λ g. (own * 2 ^ g + (low + 2 ^ 52)) % 2 ^ 12 ≡ low) (omega arith) (omega arith) (omega arith) is
   low_of false = by_granule (λ g. (own * 2 ^ g + (low + 0)) % 2 ^ 12 ≡ low) (omega arith) (omega arith) (omega arith) is
 
+  pub group_of : (contiguous : Bool) → (own * 2 ^ granule + (low + in_group contiguous)) / 2 ^ 52 * 2 ^ 52 ≡ in_group contiguous
+  group_of true = by_granule (λ g. own < 2 ^ (48 - g) → (own * 2 ^ g + (low + 2 ^ 52)) / 2 ^ 52 * 2 ^ 52 ≡ 2 ^ 52)
+      (λ w. omega arith) (λ w. omega arith) (λ w. omega arith) is within
+  group_of false = by_granule (λ g. own < 2 ^ (48 - g) → (own * 2 ^ g + (low + 0)) / 2 ^ 52 * 2 ^ 52 ≡ 0)
+      (λ w. omega arith) (λ w. omega arith) (λ w. omega arith) is within
+
 -- the size of what is under an entry, by the manual's level
 entry_bytes : (granule level : ℕ) → level < 4 → entry_log2 granule (3 - level) ≡ granule + entry_size granule level
 entry_bytes granule level low =
