@@ -1,17 +1,22 @@
 -- Words of VMSAv8-64 tables, as code makes and reads them.
-use Rattle.std.proofs.Common.{◌≡◌, ℕ, zero, suc, ◌+◌, ◌-◌, ◌*◌, ◌/◌, ◌%◌, ◌^◌, ◌<◌, ◌≤◌, refl, ap, sym, ◌∙◌, arith, true, false, Bool}
-use Rattle.std.specs.Prelude.{IsTrue, bit_and, bit_or, ◌==◌, if◌then◌else◌}
+use Rattle.std.proofs.Common.{◌≡◌, ◌≢◌, ℕ, zero, suc, ◌+◌, ◌-◌, ◌*◌, ◌/◌, ◌%◌, ◌^◌, ◌<◌, ◌≤◌, refl, ap, subst, sym, ◌∙◌, arith, true, false, Bool}
+use Rattle.std.specs.Prelude.{IsTrue, bit_and, bit_or, ◌==◌, not, if◌then◌else◌}
 use Rattle.std.specs.Int.Bits.{and_block, and_zero_r, or_block, or_zero_l, or_zero_r}
+use Rattle.std.proofs.lemmas.Nat.{mul-le, pow-add, pow_pos}
+use Rattle.std.proofs.Math.Nat.{div-add-mod}
 use Rattle.std.proofs.Math.Pow.{pow_mono}
 use Rattle.pt_model.specs.declared.block.Prot.{Prot}
 use Rattle.pt_model.specs.declared.block.Prot.TheVariants.{Read, ReadWrite}
 use Rattle.pt_model.specs.Layout.{is_common, may_write}
+use Rattle.pt_format.specs.Words.{MayBeLeaf, MayBeLeaves, GoBy, IsLeaf, IsPointer, IsWritten, a_leaf, a_pointer, words_in}
 use Rattle.pt_format.proofs.BitFacts.{and_end, or_low}
 use Rattle.pt_format.proofs.Permissions.{of_common}
 use Rattle.pt_manual.specs.VmsaWalk.{IsGranule}
-use Rattle.fmt_vmsa.specs.VmsaWords.{IsEntry, entry_word, of_leaf, pointer}
-use Rattle.fmt_vmsa.specs.Granules.{by_granule, granule_range}
+use Rattle.fmt_vmsa.specs.VmsaWords.{IsEntry, entry_size, entry_word, in_group, layout, leaf, of_leaf, pointer}
+use Rattle.fmt_vmsa.specs.Granules.{by_granule, granule_range, room}
 use Rattle.fmt_vmsa.specs.VmsaFacts.{leaf_small, low_of, page_of, upper_leaf}
+use Rattle.fmt_vmsa.specs.VmsaSizes.{at_least, entry_of, leaf_size}
+use Rattle.fmt_vmsa.specs.VmsaLaws.{pointer_low}
 
 -- own pages in bytes
 pub bytes_below : {granule : ℕ} → IsGranule granule → (own : ℕ) → own < 2 ^ (48 - granule) → own * 2 ^ granule < 2 ^ 48
@@ -100,3 +105,86 @@ module _ {granule : ℕ} (is : IsGranule granule) {level own word : ℕ} {prot :
       marked false e =
           let split : word ≡ 0 * 2 ^ 52 + (own * 2 ^ granule + of_leaf level prot) = omega (arith, e) in
           ap (λ n. bit_and n (2 ^ 52) == 2 ^ 52) split ∙ ap (λ n. n == 2 ^ 52) (top_bit 0 (own * 2 ^ granule + of_leaf level prot) low)
+
+-- an entry is of 64 bits
+pub entry_few : {granule : ℕ} → IsGranule granule → {level own word : ℕ} {prot : Prot} {contiguous : Bool} → IsEntry granule level own word prot contiguous →
+    word < 2 ^ 64
+entry_few is {level} {own} {word} {prot} {contiguous} x =
+    let low = leaf_small level prot x.stated in let bytes = bytes_below is own x.within in let mark = few contiguous in let w = x.word_is in omega arith
+  where
+    few : (c : Bool) → in_group c ≤ 2 ^ 52
+    few true = omega arith
+    few false = omega arith
+
+module _ {granule : ℕ} (is : IsGranule granule) where
+  -- a written word above the lowest level is a leaf where it is of a block's kind, and else a pointer
+  pub leaf_by_kind : (level word : ℕ) → (bit_and word 2 == 2) ≢ true → IsWritten (layout granule) level word →
+      (log2 : ℕ) × (prot : Prot) × IsLeaf (layout granule) level word log2 prot
+  leaf_by_kind level word block (a_leaf log2 prot l) = (log2, prot, l)
+  leaf_by_kind level word block (a_pointer address p) = absurd
+      (let kind : bit_and word 2 ≡ 2 = ap (λ n. bit_and n 2) p.word_is ∙ and_end 12 (pointer address) 3 2 (pointer_low is address p.a_frame) (omega arith) in
+      block (rw kind refl))
+
+  pub pointer_by_kind : (level word : ℕ) → level ≢ 0 → (bit_and word 2 == 2) ≡ true → IsWritten (layout granule) level word →
+      (address : ℕ) × IsPointer (layout granule) level word address
+  pointer_by_kind level word upper table (a_leaf log2 prot l) = absurd
+      (let x = entry_of is l.may word l.word_is in
+      let low : word % 2 ^ 12 ≡ of_leaf 1 prot = own_low is x ∙ upper_leaf level prot (omega arith) in
+      let kind : bit_and word 2 ≡ 0 = and_end 12 word (of_leaf 1 prot) 2 low (omega arith) ∙ of_common (λ p. bit_and (of_leaf 1 p) 2 ≡ 0) refl refl prot x.stated in
+      let none : ⊥ = cc in none)
+  pointer_by_kind level word upper table (a_pointer address p) = (address, p)
+
+  -- the pages before a part, as code shifts them
+  pub part_pages : {level log2 out part : ℕ} {prot : Prot} → MayBeLeaf (layout granule) level log2 out prot part →
+      part * 2 ^ entry_size granule level % 2 ^ 64 ≡ part * 2 ^ entry_size granule level
+  part_pages {level} {log2} {out} {part} {prot} may =
+      let x = entry_of is may (leaf granule level log2 out prot part) refl in
+      let within = x.within in
+      let less : 48 - granule ≤ 48 = omega arith in
+      let most : 2 ^ (48 - granule) ≤ 2 ^ 48 = pow_mono less in
+      omega arith
+
+  -- The words of equal blocks that follow each other go by the bytes of an entry.
+  module _ (level log2 out : ℕ) (prot : Prot) (count : ℕ) (some : 1 ≤ count) (leaves : MayBeLeaves (layout granule) level log2 out prot count) where
+    first : 0 < count * words_in (layout granule) level log2
+    first =
+        let w = pow_pos (log2 - entry_size granule level) in
+        let h = mul-le 1 1 count (words_in (layout granule) level log2) some (omega arith) in
+        omega arith
+
+    pub run_level : level < 4
+    run_level = let may = leaves 0 first in let low = (room is level (leaf_size is may).leaves).low in omega arith
+
+    block : 2 ^ log2 ≡ words_in (layout granule) level log2 * 2 ^ entry_size granule level
+    block =
+        let low = at_least is (leaves 0 first) in
+        let split : log2 ≡ log2 - entry_size granule level + entry_size granule level = omega arith in
+        ap (λ (k : ℕ). 2 ^ k) split ∙ pow-add 2 (log2 - entry_size granule level) (entry_size granule level)
+
+    -- the own pages of entry number n
+    own_pages : (n words : ℕ) → words ≡ words_in (layout granule) level log2 →
+        out + n / words * 2 ^ log2 + n % words * 2 ^ entry_size granule level ≡ out + n * 2 ^ entry_size granule level
+    own_pages n words is' =
+        let split : n ≡ n / words * words + n % words = omega (arith, div-add-mod n words) in
+        let wide : n / words * 2 ^ log2 ≡ n / words * (words * 2 ^ entry_size granule level) =
+        ap (λ w. n / words * w) (block ∙ ap (λ w. w * 2 ^ entry_size granule level) (sym is')) in
+        let all : n * 2 ^ entry_size granule level ≡ (n / words * words + n % words) * 2 ^ entry_size granule level =
+        ap (λ m. m * 2 ^ entry_size granule level) split in
+        omega arith
+
+    goes : (n : ℕ) →
+        leaf granule level log2 (out + n / words_in (layout granule) level log2 * 2 ^ log2) prot (n % words_in (layout granule) level log2)
+        ≡ leaf granule level log2 out prot 0 + n * 2 ^ (granule + entry_size granule level)
+    goes n =
+        let group : Bool = not (log2 == entry_size granule level) in
+        let bytes : n * 2 ^ (granule + entry_size granule level) ≡ n * (2 ^ granule * 2 ^ entry_size granule level) =
+        ap (λ w. n * w) (pow-add 2 granule (entry_size granule level)) in
+        ap (λ o. entry_word granule level o prot group) (own_pages n (words_in (layout granule) level log2) refl)
+        ∙ (let sum : entry_word granule level (out + n * 2 ^ entry_size granule level) prot group
+        ≡ entry_word granule level (out + 0 * 2 ^ entry_size granule level) prot group + n * 2 ^ (granule + entry_size granule level) = omega arith in sum)
+
+    pub entries_run : GoBy (layout granule) level log2 out prot count (2 ^ (granule + entry_size granule level))
+    entries_run = record {
+      goes = λ n less. goes n;
+      within = λ n less. subst (λ w. w < 2 ^ 64) (goes n) (entry_few is (entry_of is (leaves n less) _ refl));
+    }

@@ -81,7 +81,7 @@ module _ {granule : ℕ} (is : IsGranule granule) {level log2 out part : ℕ} {p
   pub leaf_size : IsSizeOf granule level log2
   leaf_size = subst (λ l. IsSizeOf granule l log2) may.at_level (is_size_of is log2 may.a_size)
 
-  at_least : entry_size granule level ≤ log2
+  pub at_least : entry_size granule level ≤ log2
   at_least = let s = leaf_size.size_is in omega arith
 
   -- a part is within its block

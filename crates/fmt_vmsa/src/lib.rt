@@ -18,6 +18,11 @@
 #![tactic(auto)]
 
 mod entry;
+mod instances;
 mod words;
 
 pub use entry::Entry;
+pub use instances::{Granule, Vmsa};
+
+#[cfg(test)]
+mod tests;

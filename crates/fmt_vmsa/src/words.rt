@@ -6,7 +6,7 @@ ghost use Rattle.pt_model.specs.declared.block.Prot.{Prot};
 ghost use Rattle.pt_format.specs.Words.{HasSizes};
 ghost use Rattle.pt_manual.specs.VmsaWalk.{IsGranule, index_bits};
 ghost use Rattle.fmt_vmsa.specs.VmsaWords as VmsaWords;
-ghost use Rattle.fmt_vmsa.specs.VmsaWords.{IsEntryOf, IsNoEntry, IsNoPointer, IsPermissionIn, IsPointerOf, layout, levels_of, of_leaf, pointer};
+ghost use Rattle.fmt_vmsa.specs.VmsaWords.{IsEntryOf, IsNoEntry, IsNoPointer, IsPermissionIn, IsPointerOf, layout, levels_of, of_leaf, pointer, size_of};
 
 use crate::entry::Entry;
 use bitflags::Flags;
@@ -21,6 +21,24 @@ pub fn entry_size(granule: u32, level: u32) -> u32
     ensures few { result < 40 }
 {
     (granule - 3) * level
+}
+
+/// The pages that an entry of a level maps.
+pub fn entry_pages(granule: u32, level: u32) -> u64
+    requires a_granule { IsGranule granule }
+    requires a_level { level < 4 }
+    ensures { result ≡ 2 ^ VmsaWords.entry_size granule level }
+{
+    1 << entry_size(granule, level)
+}
+
+/// The bytes that an entry of a level maps.
+pub fn entry_bytes(granule: u32, level: u32) -> u64
+    requires a_granule { IsGranule granule }
+    requires a_level { level < 4 }
+    ensures { result ≡ 2 ^ (granule + VmsaWords.entry_size granule level) }
+{
+    1 << (granule + entry_size(granule, level))
 }
 
 /// The entries of a contiguous group, as a log2.
@@ -122,6 +140,20 @@ pub fn is_contiguous(word: u64) -> bool
     ensures { result ≡ (bit_and word (2 ^ 52) == 2 ^ 52) }
 {
     Entry::from_bits_retain(word).contains(Entry::CONTIGUOUS)
+}
+
+/// The size of the block of an entry, as a log2.
+pub fn size_in(granule: u32, level: u32, word: u64) -> u32
+    requires a_granule { IsGranule granule }
+    requires a_level { level < 4 }
+    ensures { result ≡ size_of granule level (bit_and word (2 ^ 52) == 2 ^ 52) }
+{
+    let size = entry_size(granule, level);
+    if is_contiguous(word) {
+        size + group_log2(granule, level)
+    } else {
+        size
+    }
 }
 
 /// The permission of a leaf.
