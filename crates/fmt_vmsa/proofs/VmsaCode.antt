@@ -47,7 +47,7 @@ entry_built {granule} is level own prot within stated =
     let low = with_bits granule own (of_leaf level prot) (granule_range is).0 small in (
       low ∙ (let s : own * 2 ^ granule + of_leaf level prot ≡ own * 2 ^ granule + (of_leaf level prot + 0) = omega arith in s),
       ap (λ n. bit_or n (2 ^ 52)) low ∙ with_group (own * 2 ^ granule + of_leaf level prot) (omega arith)
-      ∙ (let s : own * 2 ^ granule + of_leaf level prot + 2 ^ 52 ≡ own * 2 ^ granule + (of_leaf level prot + 2 ^ 52) = omega arith in s),
+          ∙ (let s : own * 2 ^ granule + of_leaf level prot + 2 ^ 52 ≡ own * 2 ^ granule + (of_leaf level prot + 2 ^ 52) = omega arith in s),
     )
 
 -- a pointer as it is built

@@ -1,12 +1,12 @@
 -- What holds at each granule, and in each level with leaves.
-use Rattle.std.proofs.Common.{◌≡◌, ℕ, zero, suc, ◌+◌, ◌-◌, ◌*◌, ◌/◌, ◌%◌, ◌^◌, ◌<◌, ◌≤◌, refl, ap, sym, subst, ◌∙◌, arith, true, false, Bool}
-use Rattle.std.specs.Prelude.{IsTrue, nat_lt}
+use Rattle.std.proofs.Common.{◌≡◌, ℕ, zero, suc, ◌+◌, ◌-◌, ◌*◌, ◌/◌, ◌%◌, ◌^◌, ◌<◌, ◌≤◌, ap, sym, subst, ◌∙◌, arith, true}
+use Rattle.std.specs.Prelude.{IsTrue}
 use Rattle.std.proofs.lemmas.Bool.{eq-eqb, ltb-true}
 use Rattle.std.proofs.lemmas.Nat.{mod_below, mod_low, mul-le, pow-add, pow_pos, shr_below, shr_split}
 use Rattle.std.proofs.Math.Arith.{mod-mul}
 use Rattle.pt_manual.specs.EntryBits.{is_aligned}
 use Rattle.pt_manual.specs.VmsaWalk.{IsGranule, of_4_kib, of_16_kib, of_64_kib}
-use Rattle.fmt_vmsa.specs.VmsaWords.{entry_size, group_log2, has_leaves, levels_of, size_of}
+use Rattle.fmt_vmsa.specs.VmsaWords.{entry_size, group_log2, has_leaves, levels_of}
 
 pub by_granule : (P : ℕ → Type 0) → P 12 → P 14 → P 16 → {granule : ℕ} → IsGranule granule → P granule
 by_granule P four sixteen sixty_four {granule} (of_4_kib e) = subst P (sym e) four

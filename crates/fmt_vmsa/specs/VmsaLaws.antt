@@ -1,16 +1,16 @@
 -- The laws of VMSAv8-64 tables, for each granule.
-use Rattle.std.proofs.Common.{◌≡◌, ◌≢◌, ℕ, ◌+◌, ◌-◌, ◌*◌, ◌/◌, ◌%◌, ◌^◌, ◌<◌, ◌≤◌, refl, ap, ap₂, subst, sym, ◌∙◌, arith, true, false, Bool}
-use Rattle.std.specs.Prelude.{IsTrue, not, ◌==◌}
+use Rattle.std.proofs.Common.{◌≡◌, ℕ, ◌+◌, ◌-◌, ◌*◌, ◌/◌, ◌%◌, ◌^◌, ◌<◌, ◌≤◌, refl, ap, ap₂, sym, ◌∙◌, arith, true, false, Bool}
+use Rattle.std.specs.Prelude.{IsTrue}
 use Rattle.std.proofs.lemmas.Nat.{mod_below, pow_pos, shl-shr}
 use Rattle.pt_model.specs.declared.block.Prot.{Prot}
 use Rattle.pt_model.specs.declared.block.Prot.TheVariants.{Read, ReadWrite}
-use Rattle.pt_model.specs.Layout.{Layout, is_common, is_size, level_of_size, page}
-use Rattle.pt_format.specs.Words.{MayBeLeaf, IsLeaf, IsPointer, IsUnder, IsTableLevel, IsTableAddress}
+use Rattle.pt_model.specs.Layout.{is_common, is_size, level_of_size, page}
+use Rattle.pt_format.specs.Words.{MayBeLeaf, IsPointer, IsTableAddress}
 use Rattle.pt_format.specs.Laws.{HasConstants, IsLayout, WordsDiffer}
 use Rattle.pt_format.specs.Manual.{StepsAgree}
 use Rattle.pt_format.proofs.Permissions.{of_common}
 use Rattle.pt_manual.specs.VmsaWalk.{BLOCK, IsGranule, descriptor_at}
-use Rattle.fmt_vmsa.specs.VmsaWords.{IsEntry, IsPointerOf, entry_size, entry_word, found, in_group, layout, leaf, levels_of, of_leaf, pointer, size_of}
+use Rattle.fmt_vmsa.specs.VmsaWords.{IsEntry, IsPointerOf, entry_size, found, in_group, layout, leaf, levels_of, of_leaf, pointer, size_of}
 use Rattle.fmt_vmsa.specs.Granules.{by_granule, few_levels, granule_range, place, room, room_above}
 use Rattle.fmt_vmsa.specs.VmsaFacts.{empty_descriptor, entry_descriptor, group_of, leaf_small, low_of, pointer_descriptor}
 use Rattle.fmt_vmsa.specs.VmsaSizes.{entry_aligned, entry_of, is_size_of, leaf_size}

@@ -1,17 +1,16 @@
 -- The manual's walk is the walk by steps, over the words of VMSAv8-64 tables.
-use Rattle.std.proofs.Common.{◌≡◌, ℕ, zero, suc, ◌+◌, ◌-◌, ◌*◌, ◌/◌, ◌%◌, ◌^◌, ◌<◌, ◌≤◌, refl, ap, ap₂, sym, subst, ◌∙◌, arith, List, length, Some, None, Bool, true, false}
+use Rattle.std.proofs.Common.{◌≡◌, ℕ, zero, suc, ◌+◌, ◌-◌, ◌*◌, ◌/◌, ◌%◌, ◌^◌, ◌<◌, ◌≤◌, refl, ap, ap₂, sym, subst, ◌∙◌, arith, List, Some, None, Bool, true, false}
 use Rattle.std.specs.Prelude.{nat_le, nat_lt, ◌&&◌, ◌==◌, if◌then◌else◌}
 use Rattle.std.proofs.lemmas.Bool.{eq-eqb, and_from, le-leb, lt-ltb, lt-leb, ltb-true, ltb-false}
 use Rattle.std.proofs.lemmas.Nat.{pow-add, pow_pos, shl-shr, shr-shr}
 use Rattle.std.proofs.Math.Arith.{mod-mul}
-use Rattle.std.proofs.Math.Pow.{pow_mono}
 use native.Mathlib.Nat.{mod-eq_of_lt}
 use Rattle.pt_model.specs.Layout.{Found, nothing, page, table, alien, at_byte, Reached}
 use Rattle.pt_model.specs.Pages.{page_at}
-use Rattle.pt_model.specs.Words.{frames_in, frame_address, root_frame, root_level, entry}
+use Rattle.pt_model.specs.Words.{frames_in, root_frame, root_level, entry}
 use Rattle.pt_format.specs.Manual.{IsWalk, IsRooted, IsRead, OnWay, Onward, an_empty, a_leaf, a_table, by_steps, follow, entry_for}
 use Rattle.pt_manual.specs.NineBitWalk.{names_frame}
-use Rattle.pt_manual.specs.VmsaWalk.{IsGranule, descriptor_at, entry_log2, followed, index_at, index_bits, start_level, walk, walk_from}
+use Rattle.pt_manual.specs.VmsaWalk.{IsGranule, descriptor_at, followed, index_at, index_bits, start_level, walk, walk_from}
 use Rattle.pt_manual.specs.declared.descriptor.Descriptor.TheVariants.{Invalid, Table, Page}
 use Rattle.fmt_nine_bit.specs.OverPages.{reached}
 use Rattle.fmt_vmsa.specs.VmsaWords.{entry_size, found, layout, levels_of}

@@ -1,4 +1,4 @@
-use Rattle.std.proofs.Common.{◌≡◌, ◌+◌, ◌*◌, ◌^◌, arith}
+use Rattle.std.proofs.Common.{◌≡◌, ◌*◌, ◌^◌, arith}
 use Rattle.fmt_vmsa.proofs.VmsaCode.{bytes_below, entry_built}
 use Rattle.fmt_vmsa.proofs.words.entry_word.Goals as goal
 use Rattle.fmt_vmsa.proofs.words.entry_word.Goals.{then-contiguous, else-contiguous}

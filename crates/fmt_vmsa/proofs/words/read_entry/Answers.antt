@@ -1,4 +1,4 @@
-use Rattle.std.proofs.Common.{◌≡◌, ◌∙◌, sym}
+use Rattle.std.proofs.Common.{◌≡◌, ◌∙◌}
 use Rattle.std.proofs.lemmas.Bool.{both_ways}
 use Rattle.fmt_vmsa.proofs.VmsaCode.{group_bit, own_page}
 use Rattle.fmt_vmsa.proofs.words.read_entry.Goals as goal

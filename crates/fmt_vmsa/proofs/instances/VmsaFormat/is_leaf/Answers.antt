@@ -1,4 +1,4 @@
-use Rattle.std.proofs.Common.{◌≡◌, ◌∙◌, sym, true}
+use Rattle.std.proofs.Common.{◌∙◌, sym}
 use Rattle.std.proofs.lemmas.Bool.{both_ways, true_from_ne_false, not_from_false, not_from_true}
 use Rattle.fmt_vmsa.proofs.VmsaCode.{leaf_by_kind, pointer_by_kind}
 use Rattle.fmt_vmsa.proofs.instances.VmsaFormat.is_leaf.Goals as goal

@@ -1,4 +1,4 @@
-use Rattle.std.proofs.Common.{◌≡◌, ◌+◌, ◌*◌, ◌^◌, ◌∙◌, sym}
+use Rattle.std.proofs.Common.{◌∙◌}
 use Rattle.fmt_vmsa.specs.VmsaSizes.{entry_of}
 use Rattle.fmt_vmsa.specs.VmsaLaws.{entry_found, entry_within}
 use Rattle.fmt_vmsa.proofs.VmsaCode.{own_page}

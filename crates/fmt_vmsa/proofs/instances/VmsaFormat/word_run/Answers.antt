@@ -1,6 +1,4 @@
 use Rattle.fmt_vmsa.proofs.VmsaCode.{entries_run, run_level}
-use Rattle.pt_format.specs.Words.{GoBy}
-use Rattle.fmt_vmsa.specs.VmsaWords.{layout}
 use Rattle.fmt_vmsa.proofs.instances.VmsaFormat.word_run.Goals as goal
 
 pub entry_bytes-requires-clause-a_level : goal.entry_bytes-requires-clause-a_level
