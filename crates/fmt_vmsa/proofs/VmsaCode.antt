@@ -20,7 +20,8 @@ use Rattle.fmt_vmsa.specs.VmsaLaws.{pointer_low}
 
 -- own pages in bytes
 pub bytes_below : {granule : ℕ} → IsGranule granule → (own : ℕ) → own < 2 ^ (48 - granule) → own * 2 ^ granule < 2 ^ 48
-bytes_below is own within = by_granule (λ g. own < 2 ^ (48 - g) → own * 2 ^ g < 2 ^ 48) (λ w. omega arith) (λ w. omega arith) (λ w. omega arith) is within
+bytes_below is own within =
+    by_granule (λ g. own < 2 ^ (48 - g) → own * 2 ^ g < 2 ^ 48) (λ w. omega arith) (λ w. omega arith) (λ w. omega arith) is within
 
 -- bits set below own pages, and above them
 pub with_bits : (granule own low : ℕ) → 12 ≤ granule → low < 2 ^ 12 → bit_or (own * 2 ^ granule) low ≡ own * 2 ^ granule + low
@@ -55,12 +56,14 @@ pub pointer_built : (address : ℕ) → address % 2 ^ 12 ≡ 0 → bit_or (bit_o
 pointer_built address aligned =
     let split : address ≡ address / 2 ^ 12 * 2 ^ 12 + 0 = omega arith in
     let first : bit_or address 1 ≡ address / 2 ^ 12 * 2 ^ 12 + 1 =
-    ap (λ n. bit_or n 1) split ∙ or_low 12 (address / 2 ^ 12) 0 1 (omega arith) (omega arith) ∙ ap (λ n. address / 2 ^ 12 * 2 ^ 12 + n) (or_zero_l 1) in
+    ap (λ n. bit_or n 1) split ∙ or_low 12 (address / 2 ^ 12) 0 1 (omega arith) (omega arith)
+    ∙ ap (λ n. address / 2 ^ 12 * 2 ^ 12 + n) (or_zero_l 1) in
     ap (λ n. bit_or n 2) first ∙ or_low 12 (address / 2 ^ 12) 1 2 (omega arith) (omega arith)
     ∙ (let s : address / 2 ^ 12 * 2 ^ 12 + 3 ≡ pointer address = omega arith in s)
 
 -- what is read back of an entry
-module _ {granule : ℕ} (is : IsGranule granule) {level own word : ℕ} {prot : Prot} {contiguous : Bool} (x : IsEntry granule level own word prot contiguous) where
+module _ {granule : ℕ} (is : IsGranule granule) {level own word : ℕ} {prot : Prot} {contiguous : Bool}
+    (x : IsEntry granule level own word prot contiguous) where
   small : of_leaf level prot < 2 ^ 12
   small = leaf_small level prot x.stated
 
@@ -89,7 +92,8 @@ module _ {granule : ℕ} (is : IsGranule granule) {level own word : ℕ} {prot :
 
   top_bit : (high low : ℕ) → low < 2 ^ 52 → bit_and (high * 2 ^ 52 + low) (2 ^ 52) ≡ bit_and high 1 * 2 ^ 52
   top_bit high low few =
-      let both : bit_and (high * 2 ^ 52 + low) (2 ^ 52) ≡ bit_and high 1 * 2 ^ 52 + bit_and low 0 = and_block 52 high 1 low 0 few (omega arith) in
+      let both : bit_and (high * 2 ^ 52 + low) (2 ^ 52) ≡ bit_and high 1 * 2 ^ 52 + bit_and low 0 =
+      and_block 52 high 1 low 0 few (omega arith) in
       omega (arith, both, and_zero_r low)
 
   pub group_bit : (bit_and word (2 ^ 52) == 2 ^ 52) ≡ contiguous
@@ -107,10 +111,14 @@ module _ {granule : ℕ} (is : IsGranule granule) {level own word : ℕ} {prot :
           ap (λ n. bit_and n (2 ^ 52) == 2 ^ 52) split ∙ ap (λ n. n == 2 ^ 52) (top_bit 0 (own * 2 ^ granule + of_leaf level prot) low)
 
 -- an entry is of 64 bits
-pub entry_few : {granule : ℕ} → IsGranule granule → {level own word : ℕ} {prot : Prot} {contiguous : Bool} → IsEntry granule level own word prot contiguous →
-    word < 2 ^ 64
+pub entry_few : {granule : ℕ} → IsGranule granule → {level own word : ℕ} {prot : Prot} {contiguous : Bool} →
+    IsEntry granule level own word prot contiguous → word < 2 ^ 64
 entry_few is {level} {own} {word} {prot} {contiguous} x =
-    let low = leaf_small level prot x.stated in let bytes = bytes_below is own x.within in let mark = few contiguous in let w = x.word_is in omega arith
+    let low = leaf_small level prot x.stated in
+    let bytes = bytes_below is own x.within in
+    let mark = few contiguous in
+    let w = x.word_is in
+    omega arith
   where
     few : (c : Bool) → in_group c ≤ 2 ^ 52
     few true = omega arith
@@ -122,7 +130,8 @@ module _ {granule : ℕ} (is : IsGranule granule) where
       (log2 : ℕ) × (prot : Prot) × IsLeaf (layout granule) level word log2 prot
   leaf_by_kind level word block (a_leaf log2 prot l) = (log2, prot, l)
   leaf_by_kind level word block (a_pointer address p) = absurd
-      (let kind : bit_and word 2 ≡ 2 = ap (λ n. bit_and n 2) p.word_is ∙ and_end 12 (pointer address) 3 2 (pointer_low is address p.a_frame) (omega arith) in
+      (let kind : bit_and word 2 ≡ 2 =
+      ap (λ n. bit_and n 2) p.word_is ∙ and_end 12 (pointer address) 3 2 (pointer_low is address p.a_frame) (omega arith) in
       block (rw kind refl))
 
   pub pointer_by_kind : (level word : ℕ) → level ≢ 0 → (bit_and word 2 == 2) ≡ true → IsWritten (layout granule) level word →
@@ -130,7 +139,8 @@ module _ {granule : ℕ} (is : IsGranule granule) where
   pointer_by_kind level word upper table (a_leaf log2 prot l) = absurd
       (let x = entry_of is l.may word l.word_is in
       let low : word % 2 ^ 12 ≡ of_leaf 1 prot = own_low is x ∙ upper_leaf level prot (omega arith) in
-      let kind : bit_and word 2 ≡ 0 = and_end 12 word (of_leaf 1 prot) 2 low (omega arith) ∙ of_common (λ p. bit_and (of_leaf 1 p) 2 ≡ 0) refl refl prot x.stated in
+      let kind : bit_and word 2 ≡ 0 =
+      and_end 12 word (of_leaf 1 prot) 2 low (omega arith) ∙ of_common (λ p. bit_and (of_leaf 1 p) 2 ≡ 0) refl refl prot x.stated in
       let none : ⊥ = cc in none)
   pointer_by_kind level word upper table (a_pointer address p) = (address, p)
 
@@ -145,7 +155,8 @@ module _ {granule : ℕ} (is : IsGranule granule) where
       omega arith
 
   -- The words of equal blocks that follow each other go by the bytes of an entry.
-  module _ (level log2 out : ℕ) (prot : Prot) (count : ℕ) (some : 1 ≤ count) (leaves : MayBeLeaves (layout granule) level log2 out prot count) where
+  module _ (level log2 out : ℕ) (prot : Prot) (count : ℕ) (some : 1 ≤ count)
+      (leaves : MayBeLeaves (layout granule) level log2 out prot count) where
     first : 0 < count * words_in (layout granule) level log2
     first =
         let w = pow_pos (log2 - entry_size granule level) in
@@ -181,7 +192,8 @@ module _ {granule : ℕ} (is : IsGranule granule) where
         ap (λ w. n * w) (pow-add 2 granule (entry_size granule level)) in
         ap (λ o. entry_word granule level o prot group) (own_pages n (words_in (layout granule) level log2) refl)
         ∙ (let sum : entry_word granule level (out + n * 2 ^ entry_size granule level) prot group
-        ≡ entry_word granule level (out + 0 * 2 ^ entry_size granule level) prot group + n * 2 ^ (granule + entry_size granule level) = omega arith in sum)
+        ≡ entry_word granule level (out + 0 * 2 ^ entry_size granule level) prot group + n * 2 ^ (granule + entry_size granule level) =
+        omega arith in sum)
 
     pub entries_run : GoBy (layout granule) level log2 out prot count (2 ^ (granule + entry_size granule level))
     entries_run = record {

@@ -55,10 +55,12 @@ room = by_level HasRoom (holds 12 0 (omega arith) (omega arith) (omega arith) (o
     holds granule level low below some fits = record { low = low; below = below; some = some; fits = fits }
 
 pub few_levels : {granule : ℕ} → IsGranule granule → (3 ≤ levels_of granule) × (levels_of granule ≤ 4)
-few_levels = by_granule (λ granule. (3 ≤ levels_of granule) × (levels_of granule ≤ 4)) (omega arith, omega arith) (omega arith, omega arith) (omega arith, omega arith)
+few_levels = by_granule (λ granule. (3 ≤ levels_of granule) × (levels_of granule ≤ 4))
+    (omega arith, omega arith) (omega arith, omega arith) (omega arith, omega arith)
 
 pub granule_range : {granule : ℕ} → IsGranule granule → (12 ≤ granule) × (granule ≤ 16)
-granule_range = by_granule (λ granule. (12 ≤ granule) × (granule ≤ 16)) (omega arith, omega arith) (omega arith, omega arith) (omega arith, omega arith)
+granule_range = by_granule (λ granule. (12 ≤ granule) × (granule ≤ 16))
+    (omega arith, omega arith) (omega arith, omega arith) (omega arith, omega arith)
 
 -- Multiples of a power of two.
 pub whole : (n k : ℕ) → n % 2 ^ k ≡ 0 → n ≡ n / 2 ^ k * 2 ^ k
@@ -69,21 +71,28 @@ pub room_above : (n k most : ℕ) → k ≤ most → n < 2 ^ most → n % 2 ^ k 
 room_above n k most less low aligned =
     let is : most ≡ most - k + k = omega arith in
     let few : n / 2 ^ k < 2 ^ (most - k) = shr_below n (most - k) k (subst (λ m. n < 2 ^ m) is low) in
-    let product : (n / 2 ^ k + 1) * 2 ^ k ≤ 2 ^ (most - k) * 2 ^ k = mul-le (n / 2 ^ k + 1) (2 ^ k) (2 ^ (most - k)) (2 ^ k) (omega arith) (omega arith) in
+    let product : (n / 2 ^ k + 1) * 2 ^ k ≤ 2 ^ (most - k) * 2 ^ k =
+    mul-le (n / 2 ^ k + 1) (2 ^ k) (2 ^ (most - k)) (2 ^ k) (omega arith) (omega arith) in
     let high : 2 ^ most ≡ 2 ^ (most - k) * 2 ^ k = ap (λ (m : ℕ). 2 ^ m) is ∙ pow-add 2 (most - k) k in
     let own = whole n k aligned in
     omega arith
 
+-- what is below a sum of powers
+pub two_digits : (n k more : ℕ) → n % 2 ^ (k + more) ≡ (n / 2 ^ k % 2 ^ more) * 2 ^ k + n % 2 ^ k
+two_digits n k more =
+    let both : 2 ^ (k + more) ≡ 2 ^ more * 2 ^ k = pow-add 2 k more ∙ (let s : 2 ^ k * 2 ^ more ≡ 2 ^ more * 2 ^ k = omega arith in s) in
+    ap (λ w. n % w) both ∙ mod-mul n {m = 2 ^ more} {c = 2 ^ k} (pow_pos more) (pow_pos k)
+
 -- a multiple of a power is one of a lesser power
 pub lesser : (n k more : ℕ) → n % 2 ^ (k + more) ≡ 0 → n % 2 ^ k ≡ 0
 lesser n k more aligned =
-    let both : 2 ^ (k + more) ≡ 2 ^ more * 2 ^ k = pow-add 2 k more ∙ (let s : 2 ^ k * 2 ^ more ≡ 2 ^ more * 2 ^ k = omega arith in s) in
-    let split = mod-mul n {m = 2 ^ more} {c = 2 ^ k} (pow_pos more) (pow_pos k) in
-    let sum : n % 2 ^ (k + more) ≡ (n / 2 ^ k % 2 ^ more) * 2 ^ k + n % 2 ^ k = ap (λ w. n % w) both ∙ split in
+    let split = two_digits n k more in
     omega arith
 
 pub multiple : (q k : ℕ) → q * 2 ^ k % 2 ^ k ≡ 0
-multiple q k = (let s : q * 2 ^ k % 2 ^ k ≡ (q * 2 ^ k + 0) % 2 ^ k = ap (λ n. n % 2 ^ k) (omega arith) in s) ∙ mod_low q k 0 (pow_pos k)
+multiple q k =
+    let split : q * 2 ^ k ≡ q * 2 ^ k + 0 = omega arith in
+    ap (λ n. n % 2 ^ k) split ∙ mod_low q k 0 (pow_pos k)
 
 -- pages that are aligned are bytes that are
 pub aligned_bytes : (granule k n : ℕ) → n % 2 ^ k ≡ 0 → is_aligned (granule + k) (n * 2 ^ granule) ≡ true
@@ -91,7 +100,9 @@ aligned_bytes granule k n aligned =
     let own = whole n k aligned in
     let both : 2 ^ (granule + k) ≡ 2 ^ granule * 2 ^ k = pow-add 2 granule k in
     let product : n * 2 ^ granule ≡ n / 2 ^ k * 2 ^ (granule + k) =
-    ap (λ m. m * 2 ^ granule) own ∙ (let s : n / 2 ^ k * 2 ^ k * 2 ^ granule ≡ n / 2 ^ k * (2 ^ granule * 2 ^ k) = omega arith in s) ∙ ap (λ w. n / 2 ^ k * w) (sym both) in
+    ap (λ m. m * 2 ^ granule) own
+    ∙ (let s : n / 2 ^ k * 2 ^ k * 2 ^ granule ≡ n / 2 ^ k * (2 ^ granule * 2 ^ k) = omega arith in s)
+    ∙ ap (λ w. n / 2 ^ k * w) (sym both) in
     eq-eqb _ _ (ap (λ m. m % 2 ^ (granule + k)) product ∙ multiple (n / 2 ^ k) (granule + k))
 
 -- the place of a page in what begins at a multiple
@@ -113,9 +124,7 @@ pub record IsPart (own k more : ℕ) : Type 0 where
 
 pub part_of : (own k more : ℕ) → own % 2 ^ k ≡ 0 → IsPart own k more
 part_of own k more aligned =
-    let both : 2 ^ (k + more) ≡ 2 ^ more * 2 ^ k = pow-add 2 k more ∙ (let s : 2 ^ k * 2 ^ more ≡ 2 ^ more * 2 ^ k = omega arith in s) in
-    let split = mod-mul own {m = 2 ^ more} {c = 2 ^ k} (pow_pos more) (pow_pos k) in
-    let low : own % 2 ^ (k + more) ≡ (own / 2 ^ k % 2 ^ more) * 2 ^ k + own % 2 ^ k = ap (λ w. own % w) both ∙ split in
+    let low = two_digits own k more in
     let sum = shr_split own (k + more) in
     record {
       out = own / 2 ^ (k + more) * 2 ^ (k + more);

@@ -9,15 +9,24 @@ use Rattle.pt_format.specs.Words.{MayBeLeaf, IsPointer, IsTableAddress}
 use Rattle.pt_format.specs.Laws.{HasConstants, IsLayout, WordsDiffer}
 use Rattle.pt_format.specs.Manual.{StepsAgree}
 use Rattle.pt_format.proofs.Permissions.{of_common}
-use Rattle.pt_manual.specs.VmsaWalk.{BLOCK, IsGranule, descriptor_at}
+use Rattle.pt_manual.specs.VmsaWalk.{BLOCK, IsGranule, descriptor_at, index_bits}
 use Rattle.fmt_vmsa.specs.VmsaWords.{IsEntry, IsPointerOf, entry_size, found, in_group, layout, leaf, levels_of, of_leaf, pointer, size_of}
 use Rattle.fmt_vmsa.specs.Granules.{by_granule, few_levels, granule_range, place, room, room_above}
 use Rattle.fmt_vmsa.specs.VmsaFacts.{empty_descriptor, entry_descriptor, group_of, leaf_small, low_of, pointer_descriptor}
 use Rattle.fmt_vmsa.specs.VmsaSizes.{entry_aligned, entry_of, is_size_of, leaf_size}
 
-pub has_constants : (granule levels : ℕ) → levels_of granule ≡ levels → HasConstants (layout granule) granule (granule - 3) 48 48 levels levels false false
-has_constants granule levels are =
-    record { granule_is = refl; index_is = refl; input_is = refl; output_is = refl; start_is = are; levels_is = are; grows_is = refl; signed_is = refl }
+pub has_constants : (granule levels : ℕ) → levels_of granule ≡ levels →
+    HasConstants (layout granule) granule (index_bits granule) 48 48 levels levels false false
+has_constants granule levels are = record {
+  granule_is = refl;
+  index_is = refl;
+  input_is = refl;
+  output_is = refl;
+  start_is = are;
+  levels_is = are;
+  grows_is = refl;
+  signed_is = refl;
+}
 
 pub lawful_layout : {granule : ℕ} → IsGranule granule → IsLayout (layout granule)
 lawful_layout {granule} is =
@@ -57,7 +66,8 @@ one_group false false e = refl
 
 module _ {granule : ℕ} (is : IsGranule granule) where
   -- what an entry ends in
-  entry_low : {level own word : ℕ} {prot : Prot} {contiguous : Bool} → IsEntry granule level own word prot contiguous → word % 2 ^ 12 ≡ of_leaf level prot
+  entry_low : {level own word : ℕ} {prot : Prot} {contiguous : Bool} → IsEntry granule level own word prot contiguous →
+      word % 2 ^ 12 ≡ of_leaf level prot
   entry_low {level} {own} {word} {prot} {contiguous} x =
       ap (λ n. n % 2 ^ 12) x.word_is ∙ low_of is own (of_leaf level prot) x.within (leaf_small level prot x.stated) contiguous
 
@@ -92,15 +102,15 @@ module _ {granule : ℕ} (is : IsGranule granule) where
   }
 
   -- the page that the manual's step finds at an entry
-  pub entry_found : {level own word : ℕ} {prot : Prot} {contiguous : Bool} → IsEntry granule level own word prot contiguous → (here : ℕ) →
-      found granule here (descriptor_at granule (3 - level) word) ≡ page (own + here % 2 ^ entry_size granule level) prot
+  pub entry_found : {level own word : ℕ} {prot : Prot} {contiguous : Bool} → IsEntry granule level own word prot contiguous →
+      (here : ℕ) → found granule here (descriptor_at granule (3 - level) word) ≡ page (own + here % 2 ^ entry_size granule level) prot
   entry_found {level} {own} {word} {prot} x here =
       let bits : granule + entry_size granule level - granule ≡ entry_size granule level = omega arith in
       ap (found granule here) (entry_descriptor is x)
       ∙ ap₂ (λ o k. page (o + here % 2 ^ k) prot) (shl-shr own granule) bits
 
-  pub entry_within : {level own word : ℕ} {prot : Prot} {contiguous : Bool} → IsEntry granule level own word prot contiguous → (here : ℕ) →
-      own + here % 2 ^ entry_size granule level < 2 ^ (48 - granule)
+  pub entry_within : {level own word : ℕ} {prot : Prot} {contiguous : Bool} → IsEntry granule level own word prot contiguous →
+      (here : ℕ) → own + here % 2 ^ entry_size granule level < 2 ^ (48 - granule)
   entry_within {level} {own} x here =
       let fits = (room is level x.at_leaves).fits in
       let most = room_above own (entry_size granule level) (48 - granule) (omega arith) x.within x.aligned in
@@ -120,7 +130,8 @@ module _ {granule : ℕ} (is : IsGranule granule) where
         ∙ ap (λ n. page n prot)
         (let from = under.from in
         let to = under.to in
-        let begins = place (entry_size granule level) (first + part * 2 ^ entry_size granule level) here (entry_aligned is may first under.aligned) from (omega arith) in
+        let aligned = entry_aligned is may first under.aligned in
+        let begins = place (entry_size granule level) (first + part * 2 ^ entry_size granule level) here aligned from (omega arith) in
         omega arith);
     any_page = λ level word log2 here prot l within.
         let x = entry_of is l.may word l.word_is in

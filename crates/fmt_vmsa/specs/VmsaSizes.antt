@@ -68,7 +68,8 @@ known : (granule level : ℕ) (contiguous : Bool) → IsTrue (is_size (layout gr
     not (size_of granule level contiguous == entry_size granule level) ≡ contiguous → AreSizes granule level contiguous
 known granule level contiguous a_size at_level by_size = record { a_size = a_size; at_level = at_level; by_size = by_size }
 
-pub are_sizes : {granule : ℕ} → IsGranule granule → (level : ℕ) (contiguous : Bool) → IsTrue (has_leaves granule level) → AreSizes granule level contiguous
+pub are_sizes : {granule : ℕ} → IsGranule granule → (level : ℕ) (contiguous : Bool) → IsTrue (has_leaves granule level) →
+    AreSizes granule level contiguous
 are_sizes is level true = by_level (λ g l. AreSizes g l true) (known 12 0 true refl refl refl) (known 12 1 true refl refl refl)
     (known 12 2 true refl refl refl) (known 14 0 true refl refl refl) (known 14 1 true refl refl refl) (known 16 0 true refl refl refl)
     (known 16 1 true refl refl refl) is level
@@ -77,7 +78,8 @@ are_sizes is level false = by_level (λ g l. AreSizes g l false) (known 12 0 fal
     (known 16 1 false refl refl refl) is level
 
 -- The entry of a leaf that may be written.
-module _ {granule : ℕ} (is : IsGranule granule) {level log2 out part : ℕ} {prot : Prot} (may : MayBeLeaf (layout granule) level log2 out prot part) where
+module _ {granule : ℕ} (is : IsGranule granule) {level log2 out part : ℕ} {prot : Prot}
+    (may : MayBeLeaf (layout granule) level log2 out prot part) where
   pub leaf_size : IsSizeOf granule level log2
   leaf_size = subst (λ l. IsSizeOf granule l log2) may.at_level (is_size_of is log2 may.a_size)
 
@@ -90,7 +92,8 @@ module _ {granule : ℕ} (is : IsGranule granule) {level log2 out part : ℕ} {p
       let low = at_least in
       let few = may.a_part in
       let product : (part + 1) * 2 ^ entry_size granule level ≤ 2 ^ (log2 - entry_size granule level) * 2 ^ entry_size granule level =
-      mul-le (part + 1) (2 ^ entry_size granule level) (2 ^ (log2 - entry_size granule level)) (2 ^ entry_size granule level) (omega arith) (omega arith) in
+      mul-le (part + 1) (2 ^ entry_size granule level) (2 ^ (log2 - entry_size granule level)) (2 ^ entry_size granule level)
+      (omega arith) (omega arith) in
       let is' : log2 ≡ log2 - entry_size granule level + entry_size granule level = omega arith in
       let both : 2 ^ log2 ≡ 2 ^ (log2 - entry_size granule level) * 2 ^ entry_size granule level =
       ap (λ (m : ℕ). 2 ^ m) is' ∙ pow-add 2 (log2 - entry_size granule level) (entry_size granule level) in
@@ -100,8 +103,11 @@ module _ {granule : ℕ} (is : IsGranule granule) {level log2 out part : ℕ} {p
   entry_aligned n aligned =
       let low = at_least in
       let split : log2 ≡ entry_size granule level + (log2 - entry_size granule level) = omega arith in
-      let own = whole n (entry_size granule level) (lesser n (entry_size granule level) (log2 - entry_size granule level) (subst (λ k. n % 2 ^ k ≡ 0) split aligned)) in
-      let sum : n + part * 2 ^ entry_size granule level ≡ (n / 2 ^ entry_size granule level + part) * 2 ^ entry_size granule level = omega arith in
+      let begins : n % 2 ^ entry_size granule level ≡ 0 =
+      lesser n (entry_size granule level) (log2 - entry_size granule level) (subst (λ k. n % 2 ^ k ≡ 0) split aligned) in
+      let own = whole n (entry_size granule level) begins in
+      let sum : n + part * 2 ^ entry_size granule level ≡ (n / 2 ^ entry_size granule level + part) * 2 ^ entry_size granule level =
+      omega arith in
       ap (λ m. m % 2 ^ entry_size granule level) sum ∙ multiple (n / 2 ^ entry_size granule level + part) (entry_size granule level)
 
   pub entry_of : (word : ℕ) → word ≡ leaf granule level log2 out prot part →

@@ -2,8 +2,7 @@
 use Rattle.std.proofs.Common.{◌≡◌, ℕ, zero, suc, ◌+◌, ◌-◌, ◌*◌, ◌/◌, ◌%◌, ◌^◌, ◌<◌, ◌≤◌, refl, ap, ap₂, sym, subst, ◌∙◌, arith, List, Some, None, Bool, true, false}
 use Rattle.std.specs.Prelude.{nat_le, nat_lt, ◌&&◌, ◌==◌, if◌then◌else◌}
 use Rattle.std.proofs.lemmas.Bool.{eq-eqb, and_from, le-leb, lt-ltb, lt-leb, ltb-true, ltb-false}
-use Rattle.std.proofs.lemmas.Nat.{pow-add, pow_pos, shl-shr, shr-shr}
-use Rattle.std.proofs.Math.Arith.{mod-mul}
+use Rattle.std.proofs.lemmas.Nat.{shl-shr, shr-shr}
 use native.Mathlib.Nat.{mod-eq_of_lt}
 use Rattle.pt_model.specs.Layout.{Found, nothing, page, table, alien, at_byte, Reached}
 use Rattle.pt_model.specs.Pages.{page_at}
@@ -14,7 +13,7 @@ use Rattle.pt_manual.specs.VmsaWalk.{IsGranule, descriptor_at, followed, index_a
 use Rattle.pt_manual.specs.declared.descriptor.Descriptor.TheVariants.{Invalid, Table, Page}
 use Rattle.fmt_nine_bit.specs.OverPages.{reached}
 use Rattle.fmt_vmsa.specs.VmsaWords.{entry_size, found, layout, levels_of}
-use Rattle.fmt_vmsa.specs.Granules.{by_granule, few_levels, multiple}
+use Rattle.fmt_vmsa.specs.Granules.{by_granule, few_levels, multiple, two_digits}
 use Rattle.fmt_vmsa.specs.VmsaFacts.{empty_descriptor, entry_descriptor, pointer_descriptor}
 use Rattle.fmt_vmsa.specs.VmsaSizes.{entry_of}
 use Rattle.fmt_vmsa.specs.VmsaLaws.{pointer_of}
@@ -31,10 +30,8 @@ one_index granule level address low =
 one_byte : (granule k own address : ℕ) →
     own * 2 ^ granule + address % 2 ^ (granule + k) ≡ (own + address / 2 ^ granule % 2 ^ k) * 2 ^ granule + address % 2 ^ granule
 one_byte granule k own address =
-    let both : 2 ^ (granule + k) ≡ 2 ^ k * 2 ^ granule = pow-add 2 granule k ∙ (let s : 2 ^ granule * 2 ^ k ≡ 2 ^ k * 2 ^ granule = omega arith in s) in
-    let low : address % 2 ^ (granule + k) ≡ (address / 2 ^ granule % 2 ^ k) * 2 ^ granule + address % 2 ^ granule =
-    ap (λ w. address % w) both ∙ mod-mul address {m = 2 ^ k} {c = 2 ^ granule} (pow_pos k) (pow_pos granule) in
-    omega (arith, low)
+    let low = two_digits address granule k in
+    omega arith
 
 picked : (b : Bool) (x here : ℕ) → (if b then Some x else None) ≡ Some here → (b ≡ true) × (x ≡ here)
 picked true x here e = (refl, (let w : x ≡ here = cc in w))
@@ -46,28 +43,33 @@ unpicked false x e = refl
 
 module _ {granule : ℕ} (is : IsGranule granule) where
   -- what holds on the way holds on it by what follows from it
-  onward_all : {P Q : ℕ → Type 0} → ((frame : ℕ) → P frame → Q frame) → (found : Found) → Onward (layout granule) P found → Onward (layout granule) Q found
+  onward_all : {P Q : ℕ → Type 0} → ((frame : ℕ) → P frame → Q frame) → (found : Found) → Onward (layout granule) P found →
+      Onward (layout granule) Q found
   onward_all all nothing on = tt
   onward_all all (page out prot) on = tt
   onward_all all (table t) on = all ((t - 2 ^ 32) / 2 ^ granule) on
   onward_all all alien on = tt
 
-  named : (words : List ℕ) (frame : ℕ) → frame < frames_in (layout granule) words → names_frame granule words (2 ^ 32 + frame * 2 ^ granule) ≡ true
+  named : (words : List ℕ) (frame : ℕ) → frame < frames_in (layout granule) words →
+      names_frame granule words (2 ^ 32 + frame * 2 ^ granule) ≡ true
   named words frame low =
       let less : 2 ^ 32 + frame * 2 ^ granule - 2 ^ 32 ≡ frame * 2 ^ granule = omega arith in
       let begins : (2 ^ 32 + frame * 2 ^ granule - 2 ^ 32) / 2 ^ granule ≡ frame = ap (λ n. n / 2 ^ granule) less ∙ shl-shr frame granule in
-      let whole : ((2 ^ 32 + frame * 2 ^ granule - 2 ^ 32) % 2 ^ granule == 0) ≡ true = eq-eqb _ _ (ap (λ n. n % 2 ^ granule) less ∙ multiple frame granule) in
+      let whole : ((2 ^ 32 + frame * 2 ^ granule - 2 ^ 32) % 2 ^ granule == 0) ≡ true =
+      eq-eqb _ _ (ap (λ n. n % 2 ^ granule) less ∙ multiple frame granule) in
       let high : nat_le (2 ^ 32) (2 ^ 32 + frame * 2 ^ granule) ≡ true = le-leb _ _ (omega arith) in
       rw (high, whole, begins) (lt-ltb _ _ low)
 
   -- what both make of one word, where they agree from the next frame on
   on_word : (words : List ℕ) (address here level e : ℕ) (next : ℕ → Reached) → here ≡ address / 2 ^ granule →
       IsRead (layout granule) (frames_in (layout granule) words) level e →
-      Onward (layout granule) (λ frame. reached (walk_from granule words address level frame) ≡ next frame) (found granule here (descriptor_at granule (3 - level) e)) →
+      Onward (layout granule) (λ frame. reached (walk_from granule words address level frame) ≡ next frame)
+      (found granule here (descriptor_at granule (3 - level) e)) →
       reached (followed granule words address (3 - level) (walk_from granule words address level) (descriptor_at granule (3 - level) e))
       ≡ follow (layout granule) address next (found granule here (descriptor_at granule (3 - level) e))
   on_word words address here level e next here_is (an_empty z) onward =
-      let none : descriptor_at granule (3 - level) e ≡ Invalid = ap (descriptor_at granule (3 - level)) z ∙ empty_descriptor is (3 - level) in
+      let none : descriptor_at granule (3 - level) e ≡ Invalid =
+      ap (descriptor_at granule (3 - level)) z ∙ empty_descriptor is (3 - level) in
       rw none refl
   on_word words address here level e next here_is (a_leaf log2 prot l) onward =
       let own : ℕ = l.out + l.part * 2 ^ entry_size granule level in
@@ -99,7 +101,8 @@ module _ {granule : ℕ} (is : IsGranule granule) where
       ap (λ k. entry (layout granule) words frame k)
       (one_index granule level address (omega arith) ∙ ap (λ k. k / 2 ^ entry_size granule level % 2 ^ index_bits granule) (sym here_is)) in
       ap (λ k. reached (followed granule words address (3 - level) (walk_from granule words address level) (descriptor_at granule (3 - level) k))) same
-      ∙ on_word words address here level (entry_for (layout granule) words frame level here) (by_steps (layout granule) words address here level) here_is way.0
+      ∙ on_word words address here level (entry_for (layout granule) words frame level here)
+      (by_steps (layout granule) words address here level) here_is way.0
       (onward_all (λ frame' way'. walks_from words address here here_is level frame' (omega arith) way')
       (found granule here (descriptor_at granule (3 - level) (entry_for (layout granule) words frame level here))) way.1)
 
@@ -108,7 +111,8 @@ module _ {granule : ℕ} (is : IsGranule granule) where
   rooted words r =
       let a = r.a_frame in let b = r.high in let c = r.low in let few = few_levels is in
       let level : root_level words + start_level granule ≡ 3 = omega arith in
-      and_from (nat_lt (root_frame words) (frames_in (layout granule) words)) (root_level words + start_level granule == 3) (lt-ltb _ _ a) (eq-eqb _ _ level)
+      and_from (nat_lt (root_frame words) (frames_in (layout granule) words)) (root_level words + start_level granule == 3)
+      (lt-ltb _ _ a) (eq-eqb _ _ level)
 
   near : (address here : ℕ) → page_at (layout granule) address ≡ Some here → (address < 2 ^ 48) × (here ≡ address / 2 ^ granule)
   near address here e =
@@ -126,8 +130,9 @@ module _ {granule : ℕ} (is : IsGranule granule) where
         (let n = near address here e in
         let level : root_level words + 1 ≡ levels_of granule = let a = r.high in let b = r.low in omega arith in
         let far : 2 ^ (index_bits granule * levels_of granule) ≤ here = subst (λ k. 2 ^ (index_bits granule * k) ≤ here) level out in
+        let close = n.0 in
         by_granule (λ g. here ≡ address / 2 ^ g → 2 ^ (index_bits g * levels_of g) ≤ here → ⊥)
-        (λ at beyond. let close = n.0 in omega arith) (λ at beyond. let close = n.0 in omega arith) (λ at beyond. let close = n.0 in omega arith) is n.1 far);
+        (λ at beyond. omega arith) (λ at beyond. omega arith) (λ at beyond. omega arith) is n.1 far);
     walks = λ words address here under way.
         let r = under.rooted in
         let n = near address here under.at_page in

@@ -107,4 +107,5 @@ IsNoPointer granule level word = (address : ℕ) → ¬ IsPointerOf granule leve
 -- where a word is an entry of a leaf, this is its permission
 abbrev pub IsPermissionIn : (word : ℕ) (result : Prot) → Type 0
 IsPermissionIn word result =
-    (granule level own : ℕ) (prot : Prot) (contiguous : Bool) → IsGranule granule → IsEntry granule level own word prot contiguous → result ≡ prot
+    (granule level own : ℕ) (prot : Prot) (contiguous : Bool) → IsGranule granule → IsEntry granule level own word prot contiguous →
+    result ≡ prot

@@ -10,6 +10,9 @@ returns c =
     let begun : c.from_bits_retain-entry.result.0 ≡ c.args.own * 2 ^ c.args.granule =
     omega (arith, c.from_bits_retain-entry.ensures tt) in
     elim c.if-contiguous.branch [
-      | then-contiguous w ↦ rw w.if-contiguous.true (cc (built.1, begun, w.insert-then-contiguous.ensures tt, c.insert.ensures tt, c.leaf_bits.ensures, c.bits.ensures tt, w.entry-is))
-      | else-contiguous w ↦ rw w.if-contiguous.false (cc (built.0, begun, c.insert.ensures tt, c.leaf_bits.ensures, c.bits.ensures tt, w.entry-is))
+      | then-contiguous w ↦
+          rw w.if-contiguous.true
+          (cc (built.1, begun, w.insert-then-contiguous.ensures tt, c.insert.ensures tt, c.leaf_bits.ensures, c.bits.ensures tt, w.entry-is))
+      | else-contiguous w ↦
+          rw w.if-contiguous.false (cc (built.0, begun, c.insert.ensures tt, c.leaf_bits.ensures, c.bits.ensures tt, w.entry-is))
     ]
