@@ -1,6 +1,7 @@
 -- Facts for other crates: frames that are drawn one after another.
 pub mod Drawn
--- tables that are unlinked one after another, those that lie in a range, and those of a book at rest
-mod Empties
-mod EmptyTables
-mod BookTables
+-- pieces that are apart; sweeps one after another
+mod Apart
+mod Sweeps
+mod SweptTables
+mod SweptPieces

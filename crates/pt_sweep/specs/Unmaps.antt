@@ -31,19 +31,19 @@ blocks_gone blocks first count = filter (lies_in first (first + count)) blocks
 
 -- The pages of a range went: the holder is at rest with the book after it, and the frames of the tables that went are in
 -- front of the purse, over a lone holder as many as went.
-pub record IsUnmapped (f : Layout) (tells alone : Type 0) (v w : View) (blocks : List Block) (first count pages : ℕ) : Type 0 where
+pub record IsUnmapped (f : Layout) (tells alone : Type 0) (v w : View) (blocks : List Block) (first size many : ℕ) : Type 0 where
   pub range : SameRange v w
-  pub rest : IsAtRest f w (book_without f v blocks first count).blocks
-  pub tables : w.tables ≡ (book_without f v blocks first count).tables
+  pub rest : IsAtRest f w (book_without f v blocks first size).blocks
+  pub tables : w.tables ≡ (book_without f v blocks first size).tables
   pub top : w.top ≡ v.top
-  pub pages : pages ≡ pages_gone (book_of v blocks) first count
+  pub pages : many ≡ pages_gone (book_of v blocks) first size
   pub purse : (frames : List ℕ) × (w.purse ≡ frames ++ v.purse)
   pub count : alone → length w.purse + length w.tables ≡ length v.purse + length v.tables
   pub busy : SameFrames v.busy w.busy
-  pub known : (q : Position) → IsAmong v.known q → table_lies_in f first (first + count) q ≡ false → IsAmong w.known q
+  pub known : (q : Position) → IsAmong v.known q → table_lies_in f first (first + size) q ≡ false → IsAmong w.known q
   pub taken : tells → w.taken ≡ v.taken
   pub absent : tells → AddsAbsences v w
-  pub stores : tells → w.stores ≡ v.stores ++ map Cleared (all_pieces f (blocks_gone blocks first count))
+  pub stores : tells → w.stores ≡ v.stores ++ map Cleared (all_pieces f (blocks_gone blocks first size))
 
 -- A refusal is the book machine's, and only loads were made.
 pub record RefusesUnmap (f : Layout) (tells : Type 0) (v w : View) (va len : ℕ) (why : UnmapRefused) : Type 0 where

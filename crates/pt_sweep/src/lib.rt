@@ -8,10 +8,10 @@
 mod empty;
 mod frames;
 mod refused;
+mod request;
 mod sweep;
-mod unmap;
 
 pub use empty::clear_empty;
 pub use frames::draw;
 pub use refused::UnmapRefused;
-pub use unmap::unmap;
+pub use request::unmap;
