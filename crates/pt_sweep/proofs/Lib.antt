@@ -1,7 +1,10 @@
 -- Facts for other crates: frames that are drawn one after another.
 pub mod Drawn
--- pieces that are apart; sweeps one after another
+-- pieces that are apart; sweeps one after another; the tables and the pieces of a range, entry by entry
 mod Apart
 mod Sweeps
 mod SweptTables
 mod SweptPieces
+-- the pieces of a book's blocks, and its tables
+mod BlockPieces
+mod BookTables

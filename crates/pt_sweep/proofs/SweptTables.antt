@@ -24,12 +24,12 @@ use Rattle.pt_view.proofs.Pieces.{first_whole}
 use Rattle.pt_view.proofs.Entries.{at_entry, child_is, entry_first_is, from_first}
 use Rattle.pt_view.proofs.Loads.{IsLoad, absences_here, loads_here, load_none, load_table, none_loads, table_high, table_loads, table_owned, table_path}
 use Rattle.pt_view.proofs.Paths.{front_snoc}
-use Rattle.pt_walk.specs.Walks.{IsOverRange, IsOwn}
+use Rattle.pt_walk.specs.Walks.{IsFree, IsOverRange, IsOwn}
 use Rattle.pt_walk.proofs.Descent.{own_piece, owns_on}
-use Rattle.pt_walk.proofs.Ranges.{free_here}
+use Rattle.pt_walk.proofs.Ranges.{clear_below, free_here}
 use Rattle.pt_sweep.specs.Empties.{lies_below}
 use Rattle.pt_sweep.specs.Sweeps.{AreApart, CutsNone, IsBookTable, MaySweep, MaySweepBelow, Sweeps, SweepsBelow, begins_in, end_of_piece, pages_under}
-use Rattle.pt_sweep.proofs.Apart.{apart_filter, begins_is, begins_not, filter_all, filter_none, filtered_one, goes_no_more, goes_split, piece_long}
+use Rattle.pt_sweep.proofs.Apart.{apart_filter, begins_is, begins_not, filter_all, filter_none, filtered_one, goes_no_more, goes_split, pages_fit, piece_long}
 use Rattle.pt_sweep.proofs.Sweeps.{back_sweeps, loads_sweep, sweeps_as, sweeps_on}
 
 or_last : (a b : Bool) → b ≡ true → (a || b) ≡ true
@@ -458,3 +458,40 @@ module _ {f : Layout} (good : IsLayout f) {tells alone : Type 0} {v : View} {fir
                       ∙ false_from_ne_true (is_same child x) (λ same. false≢true (sym out ∙ ap (lies_below f first end level) (sym (is_same_true child x same)) ∙ child_lies)))
                 ]
               ]
+
+-- Parts of a range that is being swept.
+
+module _ {f : Layout} {tells alone : Type 0} {v w : View} {many : ℕ} (a b level : ℕ) (s : Sweeps f tells alone (lies_below f a b level) (begins_in f a b) v w many) where
+  left_one : (x : Piece) → IsOneOf w.pieces x → IsOneOf v.pieces x
+  left_one x m = (filtered_one (λ y. not (begins_in f a b y)) v.pieces x (subst (λ (xs : List Piece). IsOneOf xs x) s.pieces m)).0
+
+  -- after a part of it, the next one may be swept
+  pub below_on : IsLayout f → {first end levels : ℕ} → MaySweepBelow f v first end levels level → (at to : ℕ) →
+      (at ≡ first) ⊎ (at % pages_of_entry f level ≡ 0) → (to ≡ end) ⊎ (to % pages_of_entry f level ≡ 0) → first ≤ at → to ≤ end → MaySweepBelow f w at to levels level
+  below_on good may at to from upto before behind = record {
+    may = may_on may.may a b level at to s (uncut_part good may at to from upto before behind);
+    clear = λ page l h x m has. may.clear page (omega arith) (omega arith) x (left_one x m) has;
+  }
+
+  pub free_on : (first end : ℕ) → IsFree f v first end → (at to : ℕ) → first ≤ at → to ≤ end → IsFree f w at to
+  free_on first end free at to before behind = λ page l h x m has. free page (omega arith) (omega arith) x (left_one x m) has
+
+-- the way goes into the table under it
+pub below_table : {f : Layout} → IsLayout f → {tells alone : Type 0} {v : View} {first end level levels : ℕ} → (r : IsOverRange f v first end level) →
+    (one : end ≤ (first / pages_of_entry f level + 1) * pages_of_entry f level) → MaySweepBelow f v first end levels level → {seen : Seen} {w : View} → (l : IsLoad f tells alone v first level seen w) →
+    seen ≡ Entered → MaySweepBelow f w first end levels (level - 1)
+below_table good r one may l e = record { may = may_loads may.may (table_loads l e); clear = clear_below good r one l e may.may.owns may.clear }
+
+pub free_table : (f : Layout) {tells : Type 0} {v w : View} (first end : ℕ) → ByLoads tells v w → IsFree f v first end → IsFree f w first end
+free_table f first end k free = λ page l h x m has. free page l h x (subst (λ (xs : List Piece). IsOneOf xs x) k.book.pieces m) has
+
+-- where no piece is, nothing goes from a table of level 0
+pub no_level : {f : Layout} {tells alone : Type 0} {v : View} (first end level : ℕ) → level ≡ 0 → IsFree f v first end → SweepsBelow f tells alone first end level v v 0
+no_level {f} {v = v} first end level e free = loads_sweep (lies_below f first end level) (begins_in f first end) loads_here refl (λ q m. below_none f first end level q (λ l p n. omega arith))
+    (λ x m. begins_not f first end x (λ low high. let long = piece_long f x in free (first_of f x) low high x m (omega arith, omega arith)))
+
+-- no more pages go than a range has
+pub few_pages : {f : Layout} → IsLayout f → {tells alone : Type 0} {v w : View} {first end level levels many : ℕ} → MaySweepBelow f v first end levels level → (to : ℕ) →
+    (to ≡ end) ⊎ (to % pages_of_entry f level ≡ 0) → to ≤ end → SweepsBelow f tells alone first to level v w many → many ≤ to - first
+few_pages {f} good {v = v} {first = first} may to upto high s =
+    let fit = pages_fit f first to v.pieces may.may.apart (uncut_part good may first to (inl refl) upto (omega arith) high) in let is = s.pages in omega arith
