@@ -7,7 +7,7 @@ use Rattle.std.proofs.lemmas.Nat.{pow_pos}
 use Rattle.pt_model.specs.Layout.{Layout, pages_of_entry}
 use Rattle.pt_model.proofs.Positions.{filter_in, filter_out}
 use Rattle.pt_view.specs.declared.view.Piece.{Piece}
-use Rattle.pt_view.specs.Pieces.{IsOneOf, first_of, level_of}
+use Rattle.pt_view.specs.Pieces.{IsOneOf, IsUnderPiece, first_of, level_of}
 use Rattle.pt_sweep.specs.Sweeps.{AreApart, IsUncut, begins_in, end_of_piece, pages_under}
 
 -- Tests of the pieces of a list.
@@ -112,6 +112,19 @@ begins_not f first end x never = false_from_ne_true (begins_in f first end x) (�
 
 pub piece_long : (f : Layout) (x : Piece) → first_of f x < end_of_piece f x
 piece_long f x = let some = pow_pos (f.index * level_of f x) in omega arith
+
+-- a piece that has no page of a range isn't cut by it, and doesn't begin there
+pub free_uncut : (f : Layout) (first end : ℕ) (x : Piece) → first < end → ((page : ℕ) → first ≤ page → page < end → IsUnderPiece f x page → ⊥) → IsUncut f first end x
+free_uncut f first end x some free = elim (cases_lt first (end_of_piece f x)) [
+  | inr before ↦ inl before
+  | inl reaches ↦ elim (cases_lt (first_of f x) end) [
+    | inr behind ↦ inr (inl behind)
+    | inl low ↦ absurd (let long = piece_long f x in free (max first (first_of f x)) (omega arith) (omega arith) (omega arith, omega arith))
+  ]
+]
+
+pub free_begins : (f : Layout) (first end : ℕ) (x : Piece) → ((page : ℕ) → first ≤ page → page < end → IsUnderPiece f x page → ⊥) → begins_in f first end x ≡ false
+free_begins f first end x free = begins_not f first end x (λ low high. let long = piece_long f x in free (first_of f x) low high (omega arith, omega arith))
 
 or_last : (a b : Bool) → b ≡ true → (a || b) ≡ true
 or_last true b e = refl

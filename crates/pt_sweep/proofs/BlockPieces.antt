@@ -119,7 +119,7 @@ module _ (f : Layout) (good : IsLayout f) where
     by_blocks p t [] same = refl
     by_blocks p t (b ∷ bs) same =
         let rest : filter p (all_pieces f bs) ≡ all_pieces f (filter t bs) = by_blocks p t bs (λ c h x m. same c (suc h.0, (let l = h.1 in omega arith), h.2) x m) in
-        let both : filter p (pieces_of f b ++ all_pieces f bs) ≡ filter p (pieces_of f b) ++ filter p (all_pieces f bs) = filter-append {p = p} (pieces_of f b) (all_pieces f bs) in
+        let both : filter p (pieces_of f b ++ all_pieces f bs) ≡ filter p (pieces_of f b) ++ filter p (all_pieces f bs) = filter-append p (pieces_of f b) (all_pieces f bs) in
         elim (cases_Bool (t b)) [
           | inl e ↦
               both ∙ (λ i. filter_all p (pieces_of f b) (λ x m. same b (0, omega arith, refl) x m ∙ e) i ++ rest i) ∙ sym (ap (all_pieces f) (filter_in t b bs e))

@@ -1,18 +1,19 @@
 -- What the taking away of a range of pages answers, and what it does to a view.
-use Rattle.std.specs.Prelude.{◌≡◌, ℕ, ◌+◌, ◌/◌, ◌^◌, false, filter, map, List, ◌++◌, length, Option, Some, None, Result, Ok, Err}
+use Rattle.std.specs.Prelude.{◌≡◌, ℕ, ◌+◌, ◌/◌, ◌^◌, ◌<◌, ◌≤◌, option_map, false, filter, map, List, ◌++◌, length, Option, Some, None, Result, Ok, Err}
 use Rattle.pt_model.specs.declared.block.Block.{Block}
 use Rattle.pt_model.specs.declared.position.Position.{Position}
 use Rattle.pt_model.specs.Layout.{Layout}
 use Rattle.pt_model.specs.Pages.{page_under}
 use Rattle.pt_model.specs.Sets.{IsAmong}
 use Rattle.pt_model.specs.Book.{Book, lies_in, table_lies_in}
-use Rattle.pt_model.specs.Unmap.{UnmapRefusal, Misaligned, OutsideLease, CutsEntry, pages_gone, unmap_refusal, unmapped}
+use Rattle.pt_model.specs.Unmap.{UnmapRefusal, Misaligned, OutsideLease, CutsEntry, lowest_cut, pages_gone, unmap_refusal, unmapped}
 use Rattle.pt_view.specs.declared.view.View.{View}
 use Rattle.pt_view.specs.declared.view.Change.TheVariants.{Cleared}
 use Rattle.pt_view.specs.Lists.{SameFrames}
 use Rattle.pt_view.specs.Loads.{AddsAbsences, ByLoads}
 use Rattle.pt_view.specs.Pieces.{all_pieces}
 use Rattle.pt_view.specs.Views.{IsAtRest, SameRange, book_of}
+use Rattle.pt_num.specs.declared.Span.{Span}
 use Rattle.pt_sweep.specs.declared.refused.UnmapRefused.{UnmapRefused}
 use Rattle.pt_sweep.specs.declared.refused.UnmapRefused.TheVariants as refused
 
@@ -21,6 +22,22 @@ abbrev pub refusal_of : UnmapRefused → UnmapRefusal
 refusal_of refused.Misaligned = Misaligned
 refusal_of refused.OutsideLease = OutsideLease
 refusal_of (refused.CutsEntry block) = CutsEntry block
+
+-- a range of pages is that of a request of whole pages, inside a span
+pub record IsRange (f : Layout) (first count va len : ℕ) (range : Span) : Type 0 where
+  pub at : (range.first ≡ page_under f va) × (range.count ≡ len / 2 ^ f.granule)
+  pub some : 0 < range.count
+  pub from : first ≤ range.first
+  pub to : range.first + range.count ≤ first + count
+  pub refusal : (book : Book) → book.first ≡ first → book.count ≡ count →
+      unmap_refusal f book va len ≡ option_map CutsEntry (lowest_cut book range.first (range.first + range.count))
+
+pub record IsRefusedByNumbers (f : Layout) (first count va len : ℕ) (why : UnmapRefused) : Type 0 where
+  pub refusal : (book : Book) → book.first ≡ first → book.count ≡ count → unmap_refusal f book va len ≡ Some (refusal_of why)
+
+-- the lowest block that a range cuts, by the book of a view at rest
+abbrev pub FindsCut : Layout → View → (first count : ℕ) → Option Block → Type 0
+FindsCut f v first count found = (blocks : List Block) → IsAtRest f v blocks → found ≡ lowest_cut (book_of v blocks) first (first + count)
 
 -- the book after a range is taken away, and the blocks that go
 abbrev pub book_without : Layout → View → List Block → (first count : ℕ) → Book

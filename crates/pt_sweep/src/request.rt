@@ -1,8 +1,13 @@
 //! The taking away of a range.
 
-ghost use Rattle.pt_view.specs.Views.{Stays};
+ghost use Rattle.std.specs.Prelude.{◌≡◌, ◌⊎◌, ◌↔◌, ◌+◌, ◌^◌, ◌<◌, ◌≤◌, IfOk, IfErr, IsTrue};
+ghost use Rattle.pt_model.specs.Layout as layout;
+ghost use Rattle.pt_model.specs.Layout.{input_pages};
+ghost use Rattle.pt_view.specs.Loads.{ByLoads};
+ghost use Rattle.pt_view.specs.Views.{IsLawfulAtRest, KeepsRest, Stays};
+ghost use Rattle.pt_walk.specs.RangeWalks.{HasSpan};
 ghost use Rattle.pt_walk.specs.Walks.{Rests};
-ghost use Rattle.pt_sweep.specs.Unmaps.{AnswersUnmap};
+ghost use Rattle.pt_sweep.specs.Unmaps.{AnswersUnmap, FindsCut, IsRange, IsRefusedByNumbers};
 
 use crate::refused::UnmapRefused;
 use crate::sweep::sweep_span;
@@ -11,48 +16,58 @@ use pt_view::Holder;
 use pt_walk::next_block;
 
 /// The range of a request, where it is one of whole pages inside a span.
-fn range_in<F: Format>(span: Span, va: u64, len: u64) -> Result<Span, UnmapRefused> {
+fn range_in<F: Format>(span: Span, va: u64, len: u64) -> Result<Span, UnmapRefused>
+    requires within { span.first + span.count ≤ input_pages F.layout }
+    ensures asked { IfOk result (λ range. IsRange F.layout span.first span.count va len range) }
+    ensures refused { IfErr result (λ why. IsRefusedByNumbers F.layout span.first span.count va len why) }
+{
     if !is_whole::<F>(va) || !is_whole::<F>(len) || len == 0 {
         return Err(UnmapRefused::Misaligned);
     }
     let Some(range) = range_of::<F>(va, len) else {
         return Err(UnmapRefused::OutsideLease)
     };
-    if range.first < span.first || range.first + range.count > span.first + span.count {
+    let end = range.first + range.count;
+    if range.first < span.first || end > span.first + span.count {
         return Err(UnmapRefused::OutsideLease);
     }
     Ok(range)
 }
 
-/// Whether a block that has a page of a range has one outside it.
-fn is_cut(block: Block, first: u64, end: u64) -> bool {
+/// Whether a block begins before a range or ends behind it.
+fn reaches_out(block: Block, first: u64, end: u64) -> bool
+    requires { layout.end_of block ≤ 2 ^ 52 }
+    ensures { IsTrue result ↔ ((block.first < first) ⊎ (end < layout.end_of block)) }
+{
     block.first < first || block.first + (1 << block.log2) > end
 }
 
 /// The lowest block that has a page of a range and one outside it: it is over the first page, or over the last.
 fn cut_block<F: Format, H: Holder<F>>(holder: &mut H, range: Span) -> Option<Block>
+    requires rest { Rests F.layout (H.view holder.old) }
+    requires span { HasSpan (H.view holder.old) range.first range.count }
+    requires some { 0 < range.count }
+    requires in_space { range.first + range.count ≤ input_pages F.layout }
+    requires lawful { IsLawfulAtRest F.layout (H.view holder.old) }
+    ensures stays { Stays H.space H.aside H.alone holder.old holder.new }
+    ensures walked { ByLoads H.tells (H.view holder.old) (H.view holder.new) }
+    ensures rest { KeepsRest F.layout (H.view holder.old) (H.view holder.new) }
+    ensures cut { FindsCut F.layout (H.view holder.old) range.first range.count result }
 {
+    let first = range.first;
     let end = range.first + range.count;
-    let low = next_block::<F, H>(
-        holder,
-        Span {
-            first: range.first,
-            count: 1,
-        },
-    );
+    let low = next_block::<F, H>(holder, Span { first, count: 1 });
     if let Some(block) = low {
-        if is_cut(block, range.first, end) {
+        if reaches_out(block, first, end) {
             return low;
         }
     }
-    let block = next_block::<F, H>(
-        holder,
-        Span {
-            first: end - 1,
-            count: 1,
-        },
-    )?;
-    if is_cut(block, range.first, end) {
+    let last = Span {
+        first: end - 1,
+        count: 1,
+    };
+    let block = next_block::<F, H>(holder, last)?;
+    if reaches_out(block, first, end) {
         Some(block)
     } else {
         None

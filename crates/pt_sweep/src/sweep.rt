@@ -17,7 +17,7 @@ use pt_walk::{entry_bits, entry_end, entry_number, spine_end};
 pub(crate) fn sweep_span<F: Format, H: Holder<F>>(holder: &mut H, span: Span, free: bool) -> u64
     requires rest { Rests F.layout (H.view holder.old) }
     requires span { HasSpan (H.view holder.old) span.first span.count }
-    requires uncut { CutsNone F.layout (H.view holder.old) span.first (span.first + span.count) }
+    requires uncut { 0 < span.count → CutsNone F.layout (H.view holder.old) span.first (span.first + span.count) }
     requires free { IsTrue free → IsFree F.layout (H.view holder.old) span.first (span.first + span.count) }
     ensures stays { Stays H.space H.aside H.alone holder.old holder.new }
     ensures sweeps { SweepsIn F.layout H.tells (H.alone holder.old) span.first span.count (H.view holder.old) (H.view holder.new) result }
