@@ -1,6 +1,6 @@
 -- The pieces of a book's blocks: they are apart, and those that begin in a range that cuts no block are the blocks' in it.
 use Rattle.std.proofs.Common.{◌≡◌, ◌⊎◌, ℕ, zero, suc, ◌+◌, ◌-◌, ◌*◌, ◌^◌, ◌<◌, ◌≤◌, Bool, true, false, List, [], ◌∷◌, ◌++◌, inl, inr, refl, ap, sym, subst, ◌∙◌, arith}
-use Rattle.std.specs.Prelude.{◌&&◌, not, filter, find, map, nat_le, nat_lt, length, slice_index_or, All, AllPairs, Contains, None, Option, Some}
+use Rattle.std.specs.Prelude.{◌&&◌, not, filter, map, nat_le, nat_lt, length, slice_index_or, All, AllPairs, Contains}
 use Rattle.std.specs.List.{range_with_len}
 use Rattle.std.proofs.lemmas.List.Elements.{filter-append}
 use Rattle.std.proofs.lemmas.Bool.{and_from, and_parts, cases_Bool, cases_lt, false_from_ne_true, false≢true, leb-true, le-leb, ltb-true, lt-ltb}
@@ -143,12 +143,3 @@ module _ (f : Layout) (good : IsLayout f) where
             | inl here ↦ (c, (0, omega arith, refl), here)
             | inr there ↦ (let r : (b : Block) × Contains cs b × IsOneOf (pieces_of f b) x = block_over cs x there in (r.0, (suc r.1.0, (let l = r.1.1 in omega arith), r.1.2), r.2))
           ]
-
--- a block that a list has isn't passed over by a search that finds none
-pub found_none : (p : Block → Bool) (bs : List Block) → find p bs ≡ None → (b : Block) → Contains bs b → p b ≡ false
-found_none p [] none b h = absurd (let less = h.1 in omega arith)
-found_none p (c ∷ bs) none b (zero, less, is) = false_from_ne_true (p b) (λ e. let here : p c ≡ true = ap p is ∙ e in let s : Some c ≡ None = sym (rw here refl) ∙ none in let z : ⊥ = cc in z)
-found_none p (c ∷ bs) none b (suc k, less, is) = elim (cases_Bool (p c)) [
-  | inl e ↦ absurd (let s : Some c ≡ None = sym (rw e refl) ∙ none in let z : ⊥ = cc in z)
-  | inr e ↦ found_none p bs (sym (rw e refl) ∙ none) b (k, omega arith, is)
-]

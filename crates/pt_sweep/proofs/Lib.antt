@@ -8,3 +8,6 @@ mod SweptPieces
 -- the pieces of a book's blocks, and its tables
 mod BlockPieces
 mod BookTables
+-- the numbers of a request, and the blocks that a range cuts
+mod RangeNumbers
+mod CutBlocks

@@ -1,12 +1,12 @@
 -- What the taking away of a range of pages answers, and what it does to a view.
-use Rattle.std.specs.Prelude.{◌≡◌, ℕ, ◌+◌, ◌/◌, ◌^◌, ◌<◌, ◌≤◌, option_map, false, filter, map, List, ◌++◌, length, Option, Some, None, Result, Ok, Err}
+use Rattle.std.specs.Prelude.{◌≡◌, ℕ, ◌+◌, ◌/◌, ◌^◌, ◌<◌, ◌≤◌, option_map, ◌&&◌, false, filter, find, map, List, ◌++◌, length, Option, Some, None, Result, Ok, Err}
 use Rattle.pt_model.specs.declared.block.Block.{Block}
 use Rattle.pt_model.specs.declared.position.Position.{Position}
 use Rattle.pt_model.specs.Layout.{Layout}
 use Rattle.pt_model.specs.Pages.{page_under}
 use Rattle.pt_model.specs.Sets.{IsAmong}
-use Rattle.pt_model.specs.Book.{Book, lies_in, table_lies_in}
-use Rattle.pt_model.specs.Unmap.{UnmapRefusal, Misaligned, OutsideLease, CutsEntry, lowest_cut, pages_gone, unmap_refusal, unmapped}
+use Rattle.pt_model.specs.Book.{Book, lies_in, meets, table_lies_in}
+use Rattle.pt_model.specs.Unmap.{UnmapRefusal, Misaligned, OutsideLease, CutsEntry, is_cut, lowest_cut, pages_gone, unmap_refusal, unmapped}
 use Rattle.pt_view.specs.declared.view.View.{View}
 use Rattle.pt_view.specs.declared.view.Change.TheVariants.{Cleared}
 use Rattle.pt_view.specs.Lists.{SameFrames}
@@ -38,6 +38,11 @@ pub record IsRefusedByNumbers (f : Layout) (first count va len : ℕ) (why : Unm
 -- the lowest block that a range cuts, by the book of a view at rest
 abbrev pub FindsCut : Layout → View → (first count : ℕ) → Option Block → Type 0
 FindsCut f v first count found = (blocks : List Block) → IsAtRest f v blocks → found ≡ lowest_cut (book_of v blocks) first (first + count)
+
+-- the same of a block over one page of a range
+abbrev pub FindsCutOver : Layout → View → (page first end : ℕ) → Option Block → Type 0
+FindsCutOver f v page first end found =
+    (blocks : List Block) → IsAtRest f v blocks → found ≡ find (λ b. meets page (page + 1) b && is_cut first end b) blocks
 
 -- the book after a range is taken away, and the blocks that go
 abbrev pub book_without : Layout → View → List Block → (first count : ℕ) → Book

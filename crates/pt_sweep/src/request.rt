@@ -7,7 +7,7 @@ ghost use Rattle.pt_view.specs.Loads.{ByLoads};
 ghost use Rattle.pt_view.specs.Views.{IsLawfulAtRest, KeepsRest, Stays};
 ghost use Rattle.pt_walk.specs.RangeWalks.{HasSpan};
 ghost use Rattle.pt_walk.specs.Walks.{Rests};
-ghost use Rattle.pt_sweep.specs.Unmaps.{AnswersUnmap, FindsCut, IsRange, IsRefusedByNumbers};
+ghost use Rattle.pt_sweep.specs.Unmaps.{AnswersUnmap, FindsCut, FindsCutOver, IsRange, IsRefusedByNumbers};
 
 use crate::refused::UnmapRefused;
 use crate::sweep::sweep_span;
@@ -42,6 +42,37 @@ fn reaches_out(block: Block, first: u64, end: u64) -> bool
     block.first < first || block.first + (1 << block.log2) > end
 }
 
+/// The block over a page of a range, where it begins before the range or ends behind it.
+fn cut_over<F: Format, H: Holder<F>>(
+    holder: &mut H,
+    page: u64,
+    first: u64,
+    end: u64,
+) -> Option<Block>
+    requires rest { Rests F.layout (H.view holder.old) }
+    requires span { HasSpan (H.view holder.old) page 1 }
+    requires page { (first ≤ page) × (page < end) }
+    requires in_space { end ≤ input_pages F.layout }
+    requires lawful { IsLawfulAtRest F.layout (H.view holder.old) }
+    ensures stays { Stays H.space H.aside H.alone holder.old holder.new }
+    ensures walked { ByLoads H.tells (H.view holder.old) (H.view holder.new) }
+    ensures rest { KeepsRest F.layout (H.view holder.old) (H.view holder.new) }
+    ensures cut { FindsCutOver F.layout (H.view holder.old) page first end result }
+{
+    let block = next_block::<F, H>(
+        holder,
+        Span {
+            first: page,
+            count: 1,
+        },
+    )?;
+    if reaches_out(block, first, end) {
+        Some(block)
+    } else {
+        None
+    }
+}
+
 /// The lowest block that has a page of a range and one outside it: it is over the first page, or over the last.
 fn cut_block<F: Format, H: Holder<F>>(holder: &mut H, range: Span) -> Option<Block>
     requires rest { Rests F.layout (H.view holder.old) }
@@ -54,24 +85,12 @@ fn cut_block<F: Format, H: Holder<F>>(holder: &mut H, range: Span) -> Option<Blo
     ensures rest { KeepsRest F.layout (H.view holder.old) (H.view holder.new) }
     ensures cut { FindsCut F.layout (H.view holder.old) range.first range.count result }
 {
-    let first = range.first;
     let end = range.first + range.count;
-    let low = next_block::<F, H>(holder, Span { first, count: 1 });
-    if let Some(block) = low {
-        if reaches_out(block, first, end) {
-            return low;
-        }
+    let low = cut_over::<F, H>(holder, range.first, range.first, end);
+    if low.is_some() {
+        return low;
     }
-    let last = Span {
-        first: end - 1,
-        count: 1,
-    };
-    let block = next_block::<F, H>(holder, last)?;
-    if reaches_out(block, first, end) {
-        Some(block)
-    } else {
-        None
-    }
+    cut_over::<F, H>(holder, end - 1, range.first, end)
 }
 
 /// Takes the pages of `len` bytes from input address `va` away: the book loses the blocks and the tables off the
