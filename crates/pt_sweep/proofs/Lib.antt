@@ -11,3 +11,4 @@ mod BookTables
 -- the numbers of a request, and the blocks that a range cuts
 mod RangeNumbers
 mod CutBlocks
+mod Unmapped
