@@ -45,7 +45,7 @@ fn mapped<F: Format>(
 
 /// The text of the book's answers to a script's commands.
 fn book_replies<F: Format>(alloc: Global, script: &Script) -> Result<Vec<u8>, Fail> {
-    let mut book = ListBook::<F>::new(alloc);
+    let mut book = ListBook::<F>::new(alloc, script.levels);
     let mut text = Vec::new(alloc);
     for command in script.body.commands() {
         let answer = match command.what {

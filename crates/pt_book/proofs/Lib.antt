@@ -1,3 +1,4 @@
 pub mod ListFacts
 pub mod PositionFacts
 pub mod Refusing
+pub mod UnmapRefusing

@@ -1,10 +1,13 @@
 -- Positions put into lists in order, and those that a block needs.
-use Rattle.std.proofs.Common.{◌≡◌, ℕ, zero, suc, ◌+◌, ◌-◌, ◌*◌, ◌^◌, ◌<◌, ◌≤◌, Bool, true, false, inl, inr, List, [], ◌∷◌, ◌++◌, length, get_or, drop, cond, refl, ap, ap₂, sym, subst, ◌∙◌, arith}
+use Rattle.std.proofs.Common.{◌≡◌, ℕ, zero, suc, ◌+◌, ◌-◌, ◌*◌, ◌/◌, ◌^◌, ◌<◌, ◌≤◌, Bool, true, false, inl, inr, List, [], ◌∷◌, ◌++◌, length, get_or, drop, cond, refl, ap, ap₂, sym, subst, ◌∙◌, arith}
 use Rattle.std.specs.Prelude.{map, filter, not, max, fold, nat_le, ◌&&◌}
 use Rattle.std.specs.List.{insert, list_any, range_with_len}
-use Rattle.std.proofs.lemmas.Bool.{false≢true}
+use Rattle.std.proofs.lemmas.Bool.{false≢true, cases_lt}
 use Rattle.std.proofs.lemmas.Bool.Decides.{nat_tests}
 use Rattle.std.proofs.lemmas.List.{at_drop_more}
+use Rattle.std.proofs.lemmas.List.FromFn.{length-range_with_len}
+use Rattle.std.proofs.lemmas.Nat.{pow_pos}
+use Rattle.std.proofs.Math.Nat.{div-eq_of_lt}
 use Rattle.pt_model.specs.declared.block.Block.{Block}
 use Rattle.pt_model.specs.declared.position.Position.{Position}
 use Rattle.pt_model.specs.Layout.{Layout, IsLegalBlock, end_of, input_pages, level_of_size, pages_of_table}
@@ -14,7 +17,7 @@ use Rattle.pt_model.specs.Book.{Book, add_blocks, mapped, table_lies_in}
 use Rattle.pt_model.specs.declared.block.Prot.{Prot}
 use Rattle.pt_model.specs.Sets.{IsAmong, IsSorted}
 use Rattle.pt_model.proofs.Positions.{before_order, before_trans, add_after, add_before, add_again, sorted_add, sorted_adds, among_here, among_more}
-use Rattle.pt_model.proofs.Tops.{power_mono, top_low, reaches_top}
+use Rattle.pt_model.proofs.Tops.{power_mono, above_top, reaches_top}
 use Rattle.pt_tile.proofs.Counts.{adds_append}
 use Rattle.pt_format.specs.Laws.{IsLayout}
 use Rattle.pt_book.proofs.ListFacts.{small_power}
@@ -87,27 +90,30 @@ failed t ps xs new all i d h s e n inv = (
 
 -- What a block needs.
 
--- the top of a space that starts with all levels
-pub top_is_last : (f : Layout) → IsLayout f → (last : ℕ) → last ≤ input_pages f → least_top f f.levels last ≡ f.levels - 1
-top_is_last f l last h =
-    let levels : f.levels - 1 + 1 ≡ f.levels = omega (arith, l.start_low, l.start_high) in
-    let bits : f.input - f.granule ≤ f.index * (f.levels - 1 + 1) =
-    subst (λ (n : ℕ). f.input - f.granule ≤ f.index * n) (sym levels) (omega (arith, l.has_levels)) in
-    let reach : last ≤ pages_of_table f (f.levels - 1) =
-    omega (arith, power_mono (f.input - f.granule) (f.index * (f.levels - 1 + 1)) bits) in
-    omega (arith, top_low f f.levels last, reaches_top f f.levels last (f.levels - 1) (omega arith) reach)
+-- the spine is the positions over page 0
+spine_over : (f : Layout) (levels : List ℕ) → map (position_over f 0) levels ≡ map spine_position levels
+spine_over f [] = refl
+spine_over f (level ∷ levels) =
+    let none : 0 / pages_of_table f level ≡ 0 = div-eq_of_lt (pow_pos (f.index * (level + 1))) in
+    let base : 0 / pages_of_table f level * pages_of_table f level ≡ 0 = ap (λ n. n * pages_of_table f level) none ∙ omega arith in
+    ap₂ (λ (n : ℕ) (ps : List Position). let p : Position = record { level = level; base = n } in p ∷ ps) base (spine_over f levels)
 
--- the tables over a block, one for each level from its own on, and the last level's
-pub needed_is : (f : Layout) → IsLayout f → (b : Block) → IsLegalBlock f b →
-    needed f f.levels b
-    ≡ map (position_over f b.first) (range_with_len (level_of_size f b.log2) (f.levels - level_of_size f b.log2)) ++ spine_position (f.levels - 1) ∷ []
-needed_is f l b h =
-    let levels : f.levels - 1 + 1 ≡ f.levels = omega (arith, l.start_low, l.start_high) in
-    let more : f.levels - 1 + 1 - level_of_size f b.log2 ≡ f.levels - level_of_size f b.log2 = ap (λ n. n - level_of_size f b.log2) levels in
-    let one : f.levels - 1 + 1 - (f.levels - 1) ≡ 1 = omega (arith, l.start_low, l.start_high) in
-    ap (λ t. map (position_over f b.first) (levels_between (level_of_size f b.log2) t) ++ map spine_position (levels_between (starting_top f.levels) t))
-    (top_is_last f l (end_of b) h.in_input)
-    ∙ ap₂ (λ m n. map (position_over f b.first) (range_with_len (level_of_size f b.log2) m) ++ map spine_position (range_with_len (f.levels - 1) n)) more one
+-- the tables over a block, and then the spine
+pub needed_done : (f : Layout) (levels : ℕ) (b : Block) (old ps all : List Position) (top low last : ℕ) →
+    last ≡ end_of b → top ≡ least_top f levels last → low ≡ level_of_size f b.log2 →
+    ps ≡ add_positions old (map (position_over f b.first) (levels_between low top)) →
+    all ≡ add_positions ps (map (position_over f 0) (levels_between (levels - 1) top)) →
+    all ≡ add_positions old (needed f levels b)
+needed_done f levels b old ps all top low last l t s over spine =
+    let top_is : top ≡ least_top f levels (end_of b) = t ∙ ap (least_top f levels) l in
+    let high = levels_between (starting_top levels) top in
+    let between : ps ≡ add_positions old (map (position_over f b.first) (levels_between (level_of_size f b.log2) top)) =
+    over ∙ ap (λ m. add_positions old (map (position_over f b.first) (levels_between m top))) s in
+    spine
+    ∙ ap₂ (λ (xs ys : List Position). add_positions xs ys) between (spine_over f high)
+    ∙ sym (adds_append (map (position_over f b.first) (levels_between (level_of_size f b.log2) top)) (map spine_position high) old)
+    ∙ ap (λ t. add_positions old (map (position_over f b.first) (levels_between (level_of_size f b.log2) t)
+    ++ map spine_position (levels_between (starting_top levels) t))) top_is
 
 -- the positions of one more level, and of no level
 pub level_more : (over : ℕ → Position) (levels level : ℕ) (ps new all : List Position) → level < levels → IsSorted ps →
@@ -127,29 +133,15 @@ level_end h levels low ps above =
     let none : levels - low ≡ 0 = omega arith in
     ap (λ m. add_positions ps (map h (range_with_len low m))) none
 
--- after all levels the spine is left
-pub needed_done : (f : Layout) → IsLayout f → (b : Block) → IsLegalBlock f b → (old ps : List Position) (level n : ℕ) →
-    n ≡ f.levels → f.levels ≤ level →
-    add_positions ps (map (position_over f b.first) (range_with_len level (f.levels - level)))
-    ≡ add_positions old (map (position_over f b.first) (range_with_len (level_of_size f b.log2) (f.levels - level_of_size f b.log2))) →
-    add_position ps (spine_position (n - 1)) ≡ add_positions old (needed f f.levels b)
-needed_done f l b h old ps level n e above inv =
-    let over = position_over f b.first in
-    let low = level_of_size f b.log2 in
-    let done : ps ≡ add_positions old (map over (range_with_len low (f.levels - low))) = sym (level_end over f.levels level ps above) ∙ inv in
-    ap₂ (λ (xs : List Position) (m : ℕ). add_position xs (spine_position (m - 1))) done e
-    ∙ sym (adds_append (map over (range_with_len low (f.levels - low))) (spine_position (f.levels - 1) ∷ []) old)
-    ∙ ap (add_positions old) (sym (needed_is f l b h))
-
 -- what one more block needs
-pub needed_more : (f : Layout) (ps new all : List Position) (bs : List Block) (i : ℕ) (d : Block) → i < length bs → IsSorted ps →
-    new ≡ add_positions ps (needed f f.levels (get_or bs i d)) →
-    fold (λ xs b. add_positions xs (needed f f.levels b)) ps (drop i bs) ≡ all →
-    IsSorted new × (fold (λ xs b. add_positions xs (needed f f.levels b)) new (drop (i + 1) bs) ≡ all)
-needed_more f ps new all bs i d h s n inv = (
-  subst (λ (ys : List Position). IsSorted ys) (sym n) (sorted_adds (needed f f.levels (get_or bs i d)) ps s),
-  ap (λ (ys : List Position). fold (λ xs b. add_positions xs (needed f f.levels b)) ys (drop (i + 1) bs)) n
-      ∙ sym (at_drop_more (λ cs. fold (λ xs b. add_positions xs (needed f f.levels b)) ps cs) bs i d h)
+pub needed_more : (f : Layout) (levels : ℕ) (ps new all : List Position) (bs : List Block) (i : ℕ) (d : Block) → i < length bs → IsSorted ps →
+    new ≡ add_positions ps (needed f levels (get_or bs i d)) →
+    fold (λ xs b. add_positions xs (needed f levels b)) ps (drop i bs) ≡ all →
+    IsSorted new × (fold (λ xs b. add_positions xs (needed f levels b)) new (drop (i + 1) bs) ≡ all)
+needed_more f levels ps new all bs i d h s n inv = (
+  subst (λ (ys : List Position). IsSorted ys) (sym n) (sorted_adds (needed f levels (get_or bs i d)) ps s),
+  ap (λ (ys : List Position). fold (λ xs b. add_positions xs (needed f levels b)) ys (drop (i + 1) bs)) n
+      ∙ sym (at_drop_more (λ cs. fold (λ xs b. add_positions xs (needed f levels b)) ps cs) bs i d h)
       ∙ inv,
 )
 
@@ -160,11 +152,11 @@ log2_small f l b h =
     small_power b.log2 64 (omega (arith, h.in_input))
 
 -- the tables after a map of new blocks
-abbrev pub tables_after : Layout → List Position → List Block → List Position
-tables_after f old new =
+abbrev pub tables_after : Layout → (levels : ℕ) → List Position → List Block → List Position
+tables_after f levels old new =
     add_positions
     (filter (λ p. not (list_any (λ b. table_lies_in f b.first (end_of b) p) new)) old)
-    (filter (λ p. not (is_spine f.levels p)) (all_needed f f.levels new))
+    (filter (λ p. not (is_spine levels p)) (all_needed f levels new))
 
 abbrev pub with_parts : Book → List Block → List Position → (top : ℕ) → Book
 with_parts old blocks tables top = record {
@@ -187,12 +179,41 @@ pub lies_behind : (first base room table : ℕ) → first ≤ base → table ≤
     nat_le base (first + (room - table)) ≡ (nat_le first base && nat_le (base + table) (first + room))
 lies_behind first base room table h k = grind (arith, nat_tests)
 
--- The book after a map, by its parts: its top stays.
-pub mapped_is : (f : Layout) → IsLayout f → (old : Book) → old.top ≡ starting_top f.levels → (first count out : ℕ) (prot : Prot) →
-    first + count ≤ input_pages f → (blocks : List Block) (tables : List Position) →
+pub lies_past : (first last base table : ℕ) → last < table → false ≡ (nat_le first base && nat_le (base + table) last)
+lies_past first last base table h = grind (arith, nat_tests)
+
+-- The book after a map, by its parts.
+pub mapped_is : (f : Layout) (levels : ℕ) (old : Book) (first count out : ℕ) (prot : Prot) →
+    (blocks : List Block) (tables : List Position) (top : ℕ) →
     blocks ≡ add_blocks old.blocks (tiling f prot first out count) →
-    tables ≡ tables_after f old.tables (tiling f prot first out count) →
-    with_parts old blocks tables (starting_top f.levels) ≡ mapped f f.levels old first count out prot
-mapped_is f l old e first count out prot within blocks tables b t =
-    let top : starting_top f.levels ≡ max old.top (least_top f f.levels (first + count)) = omega (arith, e, top_is_last f l (first + count) within) in
-    λ i. with_parts old (b i) (t i) (top i)
+    tables ≡ tables_after f levels old.tables (tiling f prot first out count) →
+    top ≡ max old.top (least_top f levels (first + count)) →
+    with_parts old blocks tables top ≡ mapped f levels old first count out prot
+mapped_is f levels old first count out prot blocks tables top b t e = λ i. with_parts old (b i) (t i) (e i)
+
+-- The least top, sought from the starting one on.
+
+-- it is above a level whose table ends before
+pub above_short : (f : Layout) (levels last level : ℕ) → level < f.levels → level ≤ least_top f levels last → pages_of_table f level < last →
+    level + 1 ≤ least_top f levels last
+above_short f levels last level h low ends =
+    elim (cases_lt level (least_top f levels last)) [
+      | inl above ↦ omega arith
+      | inr at ↦ absurd (omega (arith, ends, above_top f levels last level h (omega arith)))
+    ]
+
+-- it is a level that it isn't below, whose table reaches the page
+pub top_here : (f : Layout) (levels last level : ℕ) → levels - 1 ≤ level → level ≤ least_top f levels last → last ≤ pages_of_table f level →
+    level ≡ least_top f levels last
+top_here f levels last level low at reach = omega (arith, at, reaches_top f levels last level low reach)
+
+-- the table of the last level reaches all pages
+pub last_reaches : (f : Layout) → IsLayout f → (last level : ℕ) → last ≤ input_pages f → level + 1 ≡ f.levels → last ≤ pages_of_table f level
+last_reaches f l last level within e =
+    let bits : f.input - f.granule ≤ f.index * (level + 1) =
+    subst (λ (n : ℕ). f.input - f.granule ≤ f.index * n) (sym e) (omega (arith, l.has_levels)) in
+    omega (arith, within, power_mono (f.input - f.granule) (f.index * (level + 1)) bits)
+
+-- the levels of the spine
+pub levels_counted : (levels top : ℕ) → 2 ≤ levels → levels - 1 ≤ top → top + 2 - levels ≡ length (levels_between (starting_top levels) top)
+levels_counted levels top some low = sym (length-range_with_len (starting_top levels) (top + 1 - starting_top levels) ∙ omega arith)

@@ -4,7 +4,7 @@
 //!
 //! It stands on the trait of formats, on the tilings and on the definitions. It promises that each call
 //! answers as the book machine does and changes the book as it does, and that it says exactly when frames
-//! lack for a map. Its spaces start with all levels of their format.
+//! lack for a map. A space may start with any number of levels that its format allows.
 #![tactic(auto)]
 
 mod list_book;

@@ -6,20 +6,24 @@ ghost use Rattle.pt_model.specs.Pages as pages;
 ghost use Rattle.pt_model.specs.Tiling.{tiling};
 ghost use Rattle.pt_model.specs.Book as book;
 ghost use Rattle.pt_model.specs.Book.{new_book, map_refusal, translation};
-ghost use Rattle.pt_model.specs.Run.{refused_answer};
+ghost use Rattle.pt_model.specs.Unmap as unmap;
+ghost use Rattle.pt_model.specs.Unmap.{unmap_refusal, pages_gone};
+ghost use Rattle.pt_model.specs.Run.{refused_answer, refused_unmap};
+ghost use Rattle.pt_book.specs.Spaces.{IsStart, with_book};
 
-use crate::lists::{add_blocks, first_met, tiled};
-use crate::tables::{all_needed, is_in, is_spine, tables_after};
+use crate::lists::{add_blocks, blocks_left, first_cut, first_met, pages_within, tiled};
+use crate::tables::{all_needed, is_in, is_spine, least_top, tables_after, tables_left};
 use pt_format::{Block, Format, Prot, byte_of, is_whole, page_of, page_under, range_of};
-use pt_model::{MapAnswer, Position};
+use pt_model::{MapAnswer, Position, UnmapAnswer};
 use pt_num::{Memory, Span};
 use std::alloc::Global;
 use std::marker::{Model, PhantomData};
 
-/// The book of a space that is mapped by calls and starts with all levels of its format, so that its top
-/// stays. Contracts see it as a book.
+/// The book of a space that is changed by calls, and the number of levels that the space starts with.
 #[derive(Drop)]
 pub struct ListBook<F: Format> {
+    levels: u32,
+    top: u32,
     first: u64,
     count: u64,
     blocks: Vec<Block>,
@@ -29,33 +33,43 @@ pub struct ListBook<F: Format> {
 }
 
 impl<F: Format> Model for ListBook<F> {
-    ghost use Rattle.std.specs.Prelude.{◌+◌, ◌≤◌, All};
+    ghost use Rattle.std.specs.Prelude.{◌+◌, ◌<◌, ◌≤◌, All};
     ghost use Rattle.pt_model.specs.Layout.{input_pages, IsLegalBlock};
     ghost use Rattle.pt_model.specs.Tables.{starting_top};
-    ghost use Rattle.pt_model.specs.Book.{Book};
     ghost use Rattle.pt_model.specs.Sets.{IsSorted};
+    ghost use Rattle.pt_book.specs.Spaces.{Space, IsStart};
 
-    ghost Value = { Book };
+    ghost Value = { Space };
 
     ghost view = { λ b. record {
-      first = b.first;
-      count = b.count;
-      blocks = b.blocks.items;
-      tables = b.tables.items;
-      top = starting_top F.layout.levels;
+      levels = b.levels;
+      book = record {
+        first = b.first;
+        count = b.count;
+        blocks = b.blocks.items;
+        tables = b.tables.items;
+        top = b.top;
+      };
     } };
 
     ghost invariant = { λ b. (b.first + b.count ≤ input_pages F.layout)
         × All (IsLegalBlock F.layout) b.blocks.items
-        × IsSorted b.tables.items };
+        × IsSorted b.tables.items
+        × IsStart F.layout b.levels
+        × (starting_top b.levels ≤ b.top)
+        × (b.top < F.layout.levels) };
 }
 
 impl<F: Format> ListBook<F> {
-    /// The book of the whole space of a format, which maps nothing.
-    pub fn new(alloc: Global) -> ListBook<F>
-        ensures { result ≡ new_book F.layout F.layout.levels }
+    /// The book of the whole space of a format, which starts with so many levels and maps nothing.
+    pub fn new(alloc: Global, levels: u32) -> ListBook<F>
+        requires { IsStart F.layout levels }
+        ensures levels { result.levels ≡ levels }
+        ensures book { result.book ≡ new_book F.layout levels }
     {
         ListBook {
+            levels,
+            top: levels - 1,
             first: 0,
             count: 1 << (F::INPUT - F::GRANULE),
             blocks: Vec::new(alloc),
@@ -73,7 +87,7 @@ impl<F: Format> ListBook<F> {
     /// `Occupied` with the address of the lowest page of the range that is mapped. The first of these that
     /// holds is the answer.
     pub fn refusal(&self, va: u64, pa: u64, len: u64) -> Option<MapAnswer>
-        ensures { result ≡ option_map refused_answer (map_refusal F.layout self.now va pa len) }
+        ensures { result ≡ option_map refused_answer (map_refusal F.layout self.now.book va pa len) }
     {
         if !are_whole::<F>(va, pa, len) {
             return Some(MapAnswer::Misaligned);
@@ -104,12 +118,12 @@ impl<F: Format> ListBook<F> {
         len: u64,
         prot: Prot,
     ) -> Result<bool, Memory>
-        requires allowed { map_refusal F.layout self.now va pa len ≡ None }
-        ensures { IfOk result (λ short. short ≡ book.is_short F.layout F.layout.levels frames self.now
+        requires allowed { map_refusal F.layout self.now.book va pa len ≡ None }
+        ensures { IfOk result (λ short. short ≡ book.is_short F.layout self.now.levels frames self.now.book
             (pages.page_under F.layout va) (len / 2 ^ F.layout.granule) (pa / 2 ^ F.layout.granule) prot) }
     {
         let new = self.new_blocks(va, pa, len, prot)?;
-        let needed = all_needed::<F>(self.alloc, &new)?;
+        let needed = all_needed::<F>(self.alloc, self.levels, &new)?;
         let linked = self.linked_count() as u128;
         Ok(u128::from(frames) < linked + self.count_missing(&needed) as u128)
     }
@@ -118,21 +132,65 @@ impl<F: Format> ListBook<F> {
     /// tiling, with the tables that these need. `Memory` where there is none for the lists, and then nothing
     /// changes.
     pub fn map(&mut self, va: u64, pa: u64, len: u64, prot: Prot) -> Result<(), Memory>
-        requires allowed { map_refusal F.layout self.old va pa len ≡ None }
-        ensures mapped { OnOk result (self.new ≡ book.mapped F.layout F.layout.levels self.old
-            (pages.page_under F.layout va) (len / 2 ^ F.layout.granule) (pa / 2 ^ F.layout.granule) prot) }
+        requires allowed { map_refusal F.layout self.old.book va pa len ≡ None }
+        ensures mapped { OnOk result (self.new ≡ with_book self.old (book.mapped F.layout self.old.levels self.old.book
+            (pages.page_under F.layout va) (len / 2 ^ F.layout.granule) (pa / 2 ^ F.layout.granule) prot)) }
         ensures same { OnErr result (self.new ≡ self.old) }
     {
         let new = self.new_blocks(va, pa, len, prot)?;
-        let tables = tables_after::<F>(self.alloc, &self.tables, &new)?;
+        let tables = tables_after::<F>(self.alloc, self.levels, &self.tables, &new)?;
+        let last = page_under::<F>(va) + (len >> F::GRANULE);
         self.blocks = add_blocks(self.alloc, &self.blocks, &new)?;
         self.tables = tables;
+        self.top = self.top.max(least_top::<F>(self.levels, last));
         Ok(())
+    }
+
+    /// What the taking away of `len` bytes from input address `va` is answered where it is refused; None where
+    /// it isn't.
+    ///
+    /// `Misaligned` where one of the two isn't of whole pages or the length is 0, `Outside` where a byte of the
+    /// range has no page of the space, `Cuts` with the lowest block that lies partly in the range. The first of
+    /// these that holds is the answer.
+    pub fn unmap_refusal(&self, va: u64, len: u64) -> Option<UnmapAnswer>
+        ensures { result ≡ option_map refused_unmap (unmap_refusal F.layout self.now.book va len) }
+    {
+        if !is_whole::<F>(va) || !is_whole::<F>(len) || len == 0 {
+            return Some(UnmapAnswer::Misaligned);
+        }
+        let Some(span) = range_of::<F>(va, len) else {
+            return Some(UnmapAnswer::Outside)
+        };
+        let last = span.first + span.count;
+        if !is_inside(self.first, self.count, span.first, last) {
+            return Some(UnmapAnswer::Outside);
+        }
+        let block = first_cut(&self.blocks, span.first, last)?;
+        Some(UnmapAnswer::Cuts { block })
+    }
+
+    /// Takes away the blocks and the tables that lie in `len` bytes from input address `va`, and answers how many
+    /// pages are no longer mapped. `Memory` where there is none for the lists, and then nothing changes.
+    pub fn unmap(&mut self, va: u64, len: u64) -> Result<u128, Memory>
+        requires allowed { unmap_refusal F.layout self.old.book va len ≡ None }
+        ensures pages { IfOk result (λ gone. gone ≡ pages_gone self.old.book
+            (pages.page_under F.layout va) (len / 2 ^ F.layout.granule)) }
+        ensures unmapped { OnOk result (self.new ≡ with_book self.old (unmap.unmapped F.layout self.old.book
+            (pages.page_under F.layout va) (len / 2 ^ F.layout.granule))) }
+        ensures same { OnErr result (self.new ≡ self.old) }
+    {
+        let first = page_under::<F>(va);
+        let last = first + (len >> F::GRANULE);
+        let pages = pages_within(&self.blocks, first, last);
+        let tables = tables_left::<F>(self.alloc, &self.tables, first, last)?;
+        self.blocks = blocks_left(self.alloc, &self.blocks, first, last)?;
+        self.tables = tables;
+        Ok(pages)
     }
 
     /// The blocks of a map of `len` bytes from input address `va` onto those from output address `pa`.
     fn new_blocks(&self, va: u64, pa: u64, len: u64, prot: Prot) -> Result<Vec<Block>, Memory>
-        requires allowed { map_refusal F.layout self.now va pa len ≡ None }
+        requires allowed { map_refusal F.layout self.now.book va pa len ≡ None }
         ensures tiling { IfOk result (λ new. new.items ≡ tiling F.layout prot
             (pages.page_under F.layout va) (pa / 2 ^ F.layout.granule) (len / 2 ^ F.layout.granule)) }
         ensures legal { IfOk result (λ new. All (IsLegalBlock F.layout) new.items) }
@@ -147,21 +205,22 @@ impl<F: Format> ListBook<F> {
 
     /// Whether a table position is linked: there is a table, or it is of the spine.
     fn is_linked(&self, position: Position) -> bool
-        ensures { result ≡ book.is_linked F.layout.levels self.now position }
+        ensures { result ≡ book.is_linked self.now.levels self.now.book position }
     {
-        is_spine::<F>(position) && position.level < F::LEVELS || is_in(&self.tables, position)
+        is_spine(self.levels, position) && position.level <= self.top
+            || is_in(&self.tables, position)
     }
 
     /// How many table positions are linked.
     fn linked_count(&self) -> usize
-        ensures { result ≡ book.linked_count F.layout.levels self.now }
+        ensures { result ≡ book.linked_count self.now.levels self.now.book }
     {
-        self.tables.len() + 1
+        self.tables.len() + (self.top + 2 - self.levels) as usize
     }
 
     /// How many positions of a list aren't linked.
     fn count_missing(&self, needed: &[Position]) -> usize
-        ensures { result ≡ length (filter (λ p. not (book.is_linked F.layout.levels self.now p)) needed.now) }
+        ensures { result ≡ length (filter (λ p. not (book.is_linked self.now.levels self.now.book p)) needed.now) }
     {
         let mut missing = 0;
         for position in needed {
@@ -174,14 +233,14 @@ impl<F: Format> ListBook<F> {
 
     /// The positions of the tables that are not of the spine, in order.
     pub fn tables(&self) -> &[Position]
-        ensures { result.now ≡ self.now.tables }
+        ensures { result.now ≡ self.now.book.tables }
     {
         &self.tables
     }
 
     /// Whether an input address has no page of the space.
     pub fn is_outside(&self, address: u64) -> bool
-        ensures { result ≡ book.is_outside F.layout self.now address }
+        ensures { result ≡ book.is_outside F.layout self.now.book address }
     {
         match page_of::<F>(address) {
             None => true,
@@ -192,7 +251,7 @@ impl<F: Format> ListBook<F> {
     /// The output address of the byte at an input address, and what is permitted there; None where its
     /// page isn't mapped. Addresses are in bytes.
     pub fn lookup(&self, address: u64) -> Option<(u64, Prot)>
-        ensures { result ≡ translation F.layout self.now address }
+        ensures { result ≡ translation F.layout self.now.book address }
     {
         let page = page_under::<F>(address);
         let block = first_met(&self.blocks, page, page + 1)?;

@@ -1,8 +1,9 @@
 //! Lists of blocks, scanned from end to end.
 
 ghost use Rattle.std.specs.Prelude.{◌≡◌, ℕ, ◌+◌, ◌^◌, ◌<◌, ◌≤◌, ◌≢◌, ◌++◌, All, AllPairs, drop, length, find, filter, nat_lt, not, IsTrue, IfOk, OnOk};
-ghost use Rattle.pt_model.specs.Layout.{end_of, input_pages, output_pages};
+ghost use Rattle.pt_model.specs.Layout.{end_of, pages, input_pages, output_pages};
 ghost use Rattle.pt_model.specs.Book as book;
+ghost use Rattle.pt_model.specs.Unmap as unmap;
 ghost use Rattle.pt_model.specs.Tiling.{tiling};
 
 use pt_format::{Block, Format, Prot};
@@ -29,6 +30,69 @@ pub(crate) fn first_met(blocks: &[Block], first: u64, last: u64) -> Option<Block
         }
     }
     None
+}
+
+/// Whether a block lies in the pages from `first` to before `last`.
+fn lies_in(block: Block, first: u64, last: u64) -> bool
+    requires { end_of block < 2 ^ 64 }
+    ensures { result ≡ book.lies_in first last block }
+{
+    first <= block.first && block.first + (1 << block.log2) <= last
+}
+
+/// The first block of a list that has pages both among those from `first` to before `last` and elsewhere.
+pub(crate) fn first_cut(blocks: &[Block], first: u64, last: u64) -> Option<Block>
+    requires { All (λ b. end_of b < 2 ^ 64) blocks.now }
+    ensures { result ≡ find (unmap.is_cut first last) blocks.now }
+{
+    for block in blocks {
+        if meets(*block, first, last) && !lies_in(*block, first, last) {
+            return Some(*block);
+        }
+    }
+    None
+}
+
+/// The blocks of a list that don't lie in the pages from `first` to before `last`.
+pub(crate) fn blocks_left(
+    alloc: Global,
+    blocks: &[Block],
+    first: u64,
+    last: u64,
+) -> Result<Vec<Block>, Memory>
+    requires { All (λ b. end_of b < 2 ^ 64) blocks.now }
+    ensures { IfOk result (λ left. left.items ≡ filter (λ b. not (book.lies_in first last b)) blocks.now) }
+{
+    let mut left = Vec::new(alloc);
+    for block in blocks {
+        if !lies_in(*block, first, last) {
+            left.push(*block)?;
+        }
+    }
+    Ok(left)
+}
+
+/// The pages of a block.
+fn pages_of(block: Block) -> u128
+    requires { end_of block < 2 ^ 64 }
+    ensures pages { result ≡ pages block }
+    ensures below { result < 2 ^ 64 }
+{
+    1 << block.log2
+}
+
+/// The number of pages of the blocks that lie in the pages from `first` to before `last`.
+pub(crate) fn pages_within(blocks: &[Block], first: u64, last: u64) -> u128
+    requires { All (λ b. end_of b < 2 ^ 64) blocks.now }
+    ensures { result ≡ unmap.pages_in (filter (book.lies_in first last) blocks.now) }
+{
+    let mut pages = 0;
+    for block in blocks {
+        if lies_in(*block, first, last) {
+            pages += pages_of(*block);
+        }
+    }
+    pages
 }
 
 /// Appends those blocks of a list, from a place on, that begin before a page, and answers the place behind

@@ -39,7 +39,7 @@ fn at(level: u32, base: u64) -> Position {
 
 #[test]
 fn maps_have_their_tables(rt: HostRuntime) -> Result<(), Fail> {
-    let mut book = ListBook::<VtdSs<3>>::new(rt.alloc());
+    let mut book = ListBook::<VtdSs<3>>::new(rt.alloc(), 3);
     assert_eq!(rt; book.tables().len(), 0);
     // a page needs the table that has it and the one above, under the top
     assert!(rt; takes(&mut book, (PAGE, 0x20_0000, PAGE), 3)?);
@@ -66,7 +66,7 @@ fn maps_have_their_tables(rt: HostRuntime) -> Result<(), Fail> {
 
 #[test]
 fn many_pages_have_many_tables(rt: HostRuntime) -> Result<(), Fail> {
-    let mut book = ListBook::<VtdSs<3>>::new(rt.alloc());
+    let mut book = ListBook::<VtdSs<3>>::new(rt.alloc(), 3);
     // the output is off by a page, so that 2 GiB are pages alone
     assert!(rt; takes(&mut book, (2 * GIBIBYTE, PAGE, 2 * GIBIBYTE), 1027)?);
     assert_eq!(rt; book.tables().len(), 1026);
@@ -79,7 +79,7 @@ fn many_pages_have_many_tables(rt: HostRuntime) -> Result<(), Fail> {
 
 #[test]
 fn four_levels_have_three_tables_under_the_top(rt: HostRuntime) -> Result<(), Fail> {
-    let mut book = ListBook::<X86<4>>::new(rt.alloc());
+    let mut book = ListBook::<X86<4>>::new(rt.alloc(), 4);
     // the last page of the space
     assert!(rt; takes(&mut book, (0x7fff_ffff_f000, 0, PAGE), 4)?);
     let last = [

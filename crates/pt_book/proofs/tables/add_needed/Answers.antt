@@ -1,25 +1,19 @@
-use Rattle.std.proofs.Common.{◌≡◌, ap, sym, ◌∙◌, arith}
+use Rattle.std.proofs.Common.{◌≡◌, ◌+◌, ◌*◌, ◌/◌, ◌%◌, ◌^◌, ap, sym, ◌∙◌}
+use Rattle.std.proofs.lemmas.Nat.{one_shl}
 use Rattle.std.proofs.lemmas.Result.{on_ok_weaker}
-use Rattle.pt_model.specs.Tables.{add_position, position_over}
-use Rattle.pt_book.proofs.PositionFacts.{level_more, needed_done}
+use Rattle.pt_book.proofs.PositionFacts.{log2_small, needed_done}
 use Rattle.pt_book.proofs.tables.add_needed.Goals as goal
 
-pub loop-level-preserved : goal.loop-level-preserved
-loop-level-preserved g c =
-    let f = g.F.Format.layout in
-    let ps = c.loop-level.list.items in
-    let levels : c.LEVELS-level-end.result ≡ f.levels = c.LEVELS-level-end.ensures ∙ sym g.met.F.Format.has_constants.levels_is in
-    level_more (position_over f c.args.block.first) f.levels c.loop-level.level ps _ _ (omega (arith, levels)) c.loop-level.invariant.0
-    (c.in_ok-add_position.ensures ∙ ap (add_position ps) c.position_over.ensures)
-    c.loop-level.invariant.1
+pub overflow_shl-block : goal.overflow_shl-block
+overflow_shl-block g c = log2_small g.F.Format.layout g.met.F.Format.lawful_layout c.args.block c.requires.legal
 
 pub returns : goal.returns
 returns g c =
     let f = g.F.Format.layout in
-    let constant = g.met.F.Format.has_constants.levels_is in
-    let levels : c.LEVELS.result ≡ f.levels = c.LEVELS.ensures ∙ sym constant in
-    let end : c.LEVELS-level-end.result ≡ f.levels = c.LEVELS-level-end.ensures ∙ sym constant in
-    on_ok_weaker c.add_position-2.result
-    (λ e. e
-    ∙ needed_done f g.met.F.Format.lawful_layout c.args.block c.requires.legal c.args.list.now.items c.loop-level.list.items c.loop-level.level c.LEVELS.result levels (omega (arith, end)) c.loop-level.invariant.1)
-    c.add_position-2.ensures
+    let b = c.args.block in
+    let few = log2_small f g.met.F.Format.lawful_layout b c.requires.legal in
+    let last : b.first + 1 * 2 ^ b.log2 % 2 ^ 64 ≡ b.first + 2 ^ b.log2 = ap (λ n. b.first + n) (one_shl b.log2 64 few) in
+    let low : b.log2 / c.INDEX.result ≡ b.log2 / f.index = ap (λ n. b.log2 / n) (c.INDEX.ensures ∙ sym g.met.F.Format.has_constants.index_is) in
+    on_ok_weaker c.add_over-2.result
+    (λ e. needed_done f c.args.levels b c.args.list.now.items _ _ c.least_top-top.result _ _ last c.least_top-top.ensures.top low c.in_ok-add_over.ensures.added e)
+    c.add_over-2.ensures.added

@@ -6,8 +6,7 @@ use Rattle.pt_book.proofs.tables.add_off_spine.Given as goal
 
 -- the list with those that pass among what is left is the old one with all that pass
 abbrev pub invariant-loop-position : goal.invariant-loop-position
-invariant-loop-position g l =
-    let f = g.F.Format.layout in
+invariant-loop-position l =
     IsSorted l.list.items
-    × (tables.add_positions l.list.items (filter (λ p. not (tables.is_spine f.levels p)) (drop l.position-index l.needed))
-    ≡ tables.add_positions l.initial.list.items (filter (λ p. not (tables.is_spine f.levels p)) l.needed))
+    × (tables.add_positions l.list.items (filter (λ p. not (tables.is_spine l.levels p)) (drop l.position-index l.needed))
+    ≡ tables.add_positions l.initial.list.items (filter (λ p. not (tables.is_spine l.levels p)) l.needed))

@@ -9,5 +9,5 @@ abbrev pub invariant-loop-block : goal.invariant-loop-block
 invariant-loop-block g l =
     let f = g.F.Format.layout in
     IsSorted l.list.items
-    × (fold (λ ps b. tables.add_positions ps (tables.needed f f.levels b)) l.list.items (drop l.block-index l.blocks)
-    ≡ tables.all_needed f f.levels l.blocks)
+    × (fold (λ ps b. tables.add_positions ps (tables.needed f l.levels b)) l.list.items (drop l.block-index l.blocks)
+    ≡ tables.all_needed f l.levels l.blocks)

@@ -6,7 +6,6 @@ use Rattle.pt_book.proofs.list_book.ListBook.count_missing.Given as goal
 -- those counted and those that are missing among what is left are all that are missing
 abbrev pub invariant-loop-position : goal.invariant-loop-position
 invariant-loop-position g l =
-    let f = g.F.Format.layout in
     (l.missing ≤ l.position-index)
-    × (l.missing + length (filter (λ p. not (is_linked f.levels l.self p)) (drop l.position-index l.needed))
-    ≡ length (filter (λ p. not (is_linked f.levels l.self p)) l.needed))
+    × (l.missing + length (filter (λ p. not (is_linked l.self.levels l.self.book p)) (drop l.position-index l.needed))
+    ≡ length (filter (λ p. not (is_linked l.self.levels l.self.book p)) l.needed))

@@ -5,8 +5,8 @@ use Rattle.pt_model.specs.declared.block.Block.{Block}
 use Rattle.pt_model.specs.Layout.{IsLegalBlock, input_pages, output_pages}
 use Rattle.pt_model.specs.Pages.{page_under}
 use Rattle.pt_model.specs.Tiling.{tiling, IsTiling}
-use Rattle.pt_model.specs.Book.{Book}
 use Rattle.pt_model.proofs.TilingFacts.{tiling_is}
+use Rattle.pt_book.specs.Spaces.{Space}
 use Rattle.pt_book.proofs.ListFacts.{tiling_legal, tiling_ordered}
 use Rattle.pt_book.proofs.Refusing.{allowed_input, allowed_output}
 use Rattle.pt_book.proofs.list_book.ListBook.new_blocks.Given.{Over}
@@ -19,8 +19,8 @@ in_input g c =
     let bits : c.GRANULE.result ≡ f.granule = c.GRANULE.ensures ∙ sym g.met.F.Format.has_constants.granule_is in
     let count : c.args.len / 2 ^ c.GRANULE.result ≡ c.args.len / 2 ^ f.granule = ap (λ k. c.args.len / 2 ^ k) bits in
     let within : page_under f c.args.va + c.args.len / 2 ^ f.granule ≤ c.self.inside.first + c.self.inside.count =
-    subst (λ (b : Book). page_under f c.args.va + c.args.len / 2 ^ f.granule ≤ b.first + b.count) (sym c.self.view_is)
-    (allowed_input f c.args.self.now c.args.va c.args.pa c.args.len c.requires.allowed) in
+    subst (λ (s : Space). page_under f c.args.va + c.args.len / 2 ^ f.granule ≤ s.book.first + s.book.count) (sym c.self.view_is)
+    (allowed_input f c.args.self.now.book c.args.va c.args.pa c.args.len c.requires.allowed) in
     omega (arith, count, within, c.page_under.ensures.page, c.self.invariant.0)
 
 in_output : (g : Over) (c : After-GRANULE-2 g) →
@@ -34,7 +34,7 @@ in_output g c =
       arith,
       count,
       out,
-      allowed_output f g.met.F.Format.lawful_layout c.args.self.now c.args.va c.args.pa c.args.len c.requires.allowed,
+      allowed_output f g.met.F.Format.lawful_layout c.args.self.now.book c.args.va c.args.pa c.args.len c.requires.allowed,
     )
 
 pub tiled-requires-clause-in_input : goal.tiled-requires-clause-in_input

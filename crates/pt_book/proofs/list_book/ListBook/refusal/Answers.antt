@@ -5,9 +5,10 @@ use Rattle.pt_model.specs.declared.block.Block.{Block}
 use Rattle.pt_model.specs.Layout.{IsLegalBlock}
 use Rattle.pt_model.specs.Pages.{byte_at}
 use Rattle.pt_model.specs.declared.reply.MapAnswer.TheVariants as mapping
-use Rattle.pt_model.specs.Book.{Book, MapRefusal, map_refusal, meets}
+use Rattle.pt_model.specs.Book.{MapRefusal, map_refusal, meets}
 use Rattle.pt_model.specs.Run.{refused_answer}
 use Rattle.pt_format.proofs.PageFacts.{under_small, under_within, count_small}
+use Rattle.pt_book.specs.Spaces.{Space}
 use Rattle.pt_book.proofs.ListFacts.{found_is}
 use Rattle.pt_book.proofs.Refusing.{plain_book, span_is, refusal_is, outside_is, output_is, free_is, occupied_is}
 use Rattle.pt_book.proofs.list_book.ListBook.refusal.Goals as goal
@@ -23,7 +24,7 @@ pub returns-then-not-is_inside : goal.returns-then-not-is_inside
 returns-then-not-is_inside g c =
     let f = g.F.Format.layout in
     let book = plain_book f c.self.inside.first c.self.inside.count c.self.inside.blocks.items in
-    ap (λ (o : Option MapRefusal). option_map refused_answer o) (sym (ap (λ (b : Book). map_refusal f b c.args.va c.args.pa c.args.len) (sym c.self.view_is)
+    ap (λ (o : Option MapRefusal). option_map refused_answer o) (sym (ap (λ (s : Space). map_refusal f s.book c.args.va c.args.pa c.args.len) (sym c.self.view_is)
     ∙ refusal_is f book c.args.va c.args.pa c.args.len c.in-Some.span (sym c.if-not-are_whole.ensures) c.in-Some.ensures
     ∙ outside_is f book c.args.pa c.args.len c.in-Some.span (sym c.if-not-is_inside.ensures)))
 
@@ -31,7 +32,7 @@ pub returns-then-is_past_output : goal.returns-then-is_past_output
 returns-then-is_past_output g c =
     let f = g.F.Format.layout in
     let book = plain_book f c.self.inside.first c.self.inside.count c.self.inside.blocks.items in
-    ap (λ (o : Option MapRefusal). option_map refused_answer o) (sym (ap (λ (b : Book). map_refusal f b c.args.va c.args.pa c.args.len) (sym c.self.view_is)
+    ap (λ (o : Option MapRefusal). option_map refused_answer o) (sym (ap (λ (s : Space). map_refusal f s.book c.args.va c.args.pa c.args.len) (sym c.self.view_is)
     ∙ refusal_is f book c.args.va c.args.pa c.args.len c.in-Some.span (sym c.if-not-are_whole.ensures) c.in-Some.ensures
     ∙ output_is f book c.args.pa c.args.len c.in-Some.span (sym c.if-not-is_inside.ensures) (sym c.if-is_past_output.ensures)))
 
@@ -43,7 +44,7 @@ returns-in_err-block g c =
     let none : find (meets c.in-Some.span.first last) c.self.inside.blocks.items ≡ None =
     ap (λ (xs : List Block). find (meets c.in-Some.span.first last) xs) (sym c.deref.ensures.value) ∙ sym c.in_err-block.ensures in
     c.from_residual.ensures
-    ∙ ap (λ (o : Option MapRefusal). option_map refused_answer o) (sym (ap (λ (b : Book). map_refusal f b c.args.va c.args.pa c.args.len) (sym c.self.view_is)
+    ∙ ap (λ (o : Option MapRefusal). option_map refused_answer o) (sym (ap (λ (s : Space). map_refusal f s.book c.args.va c.args.pa c.args.len) (sym c.self.view_is)
     ∙ refusal_is f book c.args.va c.args.pa c.args.len c.in-Some.span (sym c.if-not-are_whole.ensures) c.in-Some.ensures
     ∙ free_is f book c.args.pa c.args.len c.in-Some.span (sym c.if-not-is_inside.ensures) (sym c.if-is_past_output.ensures) none))
 
@@ -66,6 +67,6 @@ returns g c =
     let some : find (meets c.in-Some.span.first last) c.self.inside.blocks.items ≡ Some c.in_ok-block.block =
     ap (λ (xs : List Block). find (meets c.in-Some.span.first last) xs) (sym c.deref.ensures.value) ∙ sym c.in_ok-block.ensures in
     ap (λ (n : ℕ). Some (mapping.Occupied n)) (c.byte_of.ensures ∙ ap (byte_at f) c.max.ensures)
-    ∙ ap (λ (o : Option MapRefusal). option_map refused_answer o) (sym (ap (λ (b : Book). map_refusal f b c.args.va c.args.pa c.args.len) (sym c.self.view_is)
+    ∙ ap (λ (o : Option MapRefusal). option_map refused_answer o) (sym (ap (λ (s : Space). map_refusal f s.book c.args.va c.args.pa c.args.len) (sym c.self.view_is)
     ∙ refusal_is f book c.args.va c.args.pa c.args.len c.in-Some.span (sym c.if-not-are_whole.ensures) c.in-Some.ensures
     ∙ occupied_is f book c.args.pa c.args.len c.in-Some.span c.in_ok-block.block (sym c.if-not-is_inside.ensures) (sym c.if-is_past_output.ensures) some))

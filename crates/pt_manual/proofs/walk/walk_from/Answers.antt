@@ -1,17 +1,17 @@
-use Rattle.std.proofs.Common.{◌≡◌, ◌-◌, ◌^◌, ◌≤◌, arith, sym, ◌∙◌}
+use Rattle.std.proofs.Common.{◌≡◌, ◌-◌, ◌^◌, ◌≤◌, true, arith, sym, ◌∙◌}
 use Rattle.std.proofs.lemmas.Nat.{one_shl, mod_below, pow_pos}
 use Rattle.std.proofs.Math.Pow.{pow_mono}
-use Rattle.pt_manual.specs.NineBitWalk.{walk_by, walk_from, followed}
+use Rattle.pt_manual.specs.NineBitWalk.{walk_from, followed}
 use Rattle.pt_manual.proofs.WalkFacts.{walk_next}
-use Rattle.pt_manual.proofs.walk.walk_by.Given as given
-use Rattle.pt_manual.proofs.walk.walk_by.Goals as goal
-use Rattle.pt_manual.proofs.walk.walk_by.Goals.{After-read_entry}
+use Rattle.pt_manual.proofs.walk.walk_from.Given as given
+use Rattle.pt_manual.proofs.walk.walk_from.Goals as goal
+use Rattle.pt_manual.proofs.walk.walk_from.Goals.{After-read_entry}
 
 -- the walk, by the entry that was read
 stepped : (g : given.Over) (c : After-read_entry g) →
     followed c.args.words.now c.args.address (g.E.Entries.manual.number (c.loop-level.level - 1)) c.loop-level.read c.loop-level.write
     (walk_from g.E.Entries.manual c.args.words.now c.args.address (c.loop-level.level - 1)) c.read_entry.result
-    ≡ walk_by g.E.Entries.manual c.args.words.now c.args.levels c.args.input c.args.bad_root c.args.address
+    ≡ walk_from g.E.Entries.manual c.args.words.now c.args.address c.args.tables c.args.top true true
 stepped g c =
     sym (walk_next g.E.Entries.manual c.args.words.now c.args.address c.loop-level.level c.loop-level.frame c.entry_at.result
     c.loop-level.read c.loop-level.write c.read_entry.result c.loop-level-test.true c.entry_at.ensures c.read_entry.ensures.step)

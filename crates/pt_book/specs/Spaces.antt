@@ -1,0 +1,17 @@
+-- A space of the slow book: its book, and the number of levels that it starts with.
+use Rattle.std.specs.Prelude.{ℕ, ◌≤◌}
+use Rattle.pt_model.specs.Layout.{Layout}
+use Rattle.pt_model.specs.Book.{Book}
+
+pub record Space : Type 0 where
+  pub levels : ℕ
+  pub book : Book
+
+-- the space with another book
+abbrev pub with_book : Space → Book → Space
+with_book space book = record { levels = space.levels; book = book }
+
+-- a space of the format may start with so many levels
+pub record IsStart (f : Layout) (levels : ℕ) : Type 0 where
+  pub low : f.start ≤ levels
+  pub high : levels ≤ f.levels
