@@ -59,4 +59,4 @@ pub record Runs (f : Layout) (m : Machine) (commands : List Command) (v : View) 
   pub ready : IsReady f v
   pub same : machine_in f v ≡ m
   pub built : IsTrue (are_built rest)
-  pub replies : text ++ replies_text (replies_from m (book_in v) rest) ≡ replies_text (run_of m commands)
+  pub replies : text ++ replies_text f (replies_from m (book_in v) rest) ≡ replies_text f (run_of m commands)

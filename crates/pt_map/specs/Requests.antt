@@ -18,7 +18,7 @@ use Rattle.pt_view.specs.Pieces.{add_pieces, all_pieces}
 use Rattle.pt_view.specs.Views.{IsAtRest, SameRange, book_of}
 use Rattle.pt_walk.specs.Walks.{IsClear, IsFree, IsLowest, OwnsAll, Rests}
 use Rattle.pt_sweep.specs.Draws.{KeepsBook, SamePlace}
-use Rattle.pt_sweep.specs.Empties.{IsBookTable}
+use Rattle.pt_sweep.specs.Sweeps.{IsBookTable}
 use Rattle.pt_map.specs.declared.refused.MapRefused.{MapRefused}
 use Rattle.pt_map.specs.declared.refused.MapRefused.TheVariants as refused
 use Rattle.pt_map.specs.Absent.{Counted, IsMissing, is_shown}

@@ -3,7 +3,7 @@ use Rattle.std.proofs.lemmas.Bool.{lt-ltb, ltb-true}
 use Rattle.std.proofs.lemmas.Nat.{one_shl}
 use Rattle.pt_model.specs.Layout.{pages_of_entry}
 use Rattle.pt_walk.proofs.Cuts.{pages_few, power_cut}
-use Rattle.pt_sweep.proofs.empty.is_off_spine.Goals as goal
+use Rattle.pt_sweep.proofs.sweep.is_off_spine.Goals as goal
 
 pub returns-else-first-gt0 : goal.returns-else-first-gt0
 returns-else-first-gt0 g c =

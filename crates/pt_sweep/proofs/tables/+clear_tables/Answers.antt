@@ -7,11 +7,11 @@ use Rattle.pt_view.proofs.Stays.{stays_here, stays_on}
 use Rattle.pt_walk.specs.Walks.{IsOverRange}
 use Rattle.pt_walk.proofs.Cuts.{next_stop, pages_few}
 use Rattle.pt_walk.proofs.Ranges.{range_below, range_enters, range_from, range_load}
-use Rattle.pt_sweep.specs.Empties.{IsEmptyRange}
+use Rattle.pt_sweep.specs.EmptyRanges.{IsEmptyRange}
 use Rattle.pt_sweep.proofs.EmptyTables.{empty_loads, empty_on, entries_on, kept, may_unlink, next_edge, no_level, none_here, none_yet, some_path, unlinked}
-use Rattle.pt_sweep.proofs.empty.+clear_tables.Given.{Over}
-use Rattle.pt_sweep.proofs.empty.+clear_tables.Goals as goal
-use Rattle.pt_sweep.proofs.empty.+clear_tables.Goals.{clear_table-After-enter, clear_tables-After-min-next}
+use Rattle.pt_sweep.proofs.tables.+clear_tables.Given.{Over}
+use Rattle.pt_sweep.proofs.tables.+clear_tables.Goals as goal
+use Rattle.pt_sweep.proofs.tables.+clear_tables.Goals.{clear_table-After-enter, clear_tables-After-min-next}
 
 -- Under one entry.
 

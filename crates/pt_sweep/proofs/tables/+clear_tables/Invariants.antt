@@ -2,7 +2,7 @@ use Rattle.std.proofs.Common.{◌≡◌, ◌⊎◌, ◌+◌, ◌-◌, ◌*◌, �
 use Rattle.pt_model.specs.Layout.{pages_of_entry}
 use Rattle.pt_view.specs.Views.{Stays}
 use Rattle.pt_sweep.specs.Empties.{Unlinks, lies_below}
-use Rattle.pt_sweep.proofs.empty.+clear_tables.Given as goal
+use Rattle.pt_sweep.proofs.tables.+clear_tables.Given as goal
 
 abbrev pub decreases-clear_tables : goal.decreases-clear_tables
 decreases-clear_tables g l = 2 * l.level + 1
