@@ -1,7 +1,7 @@
 -- The positions that a request needs and that a book lacks, against those that were found absent.
 use Rattle.std.proofs.lemmas.Bool.{not-true, not_from_false, and_from, and_parts, cases_lt, false_from_ne_true, false≢true, le-leb, lt-ltb, ltb-true, or_cases, or_left, or_right}
 use Rattle.std.proofs.Common.{◌≡◌, ◌⊎◌, ◌↔◌, ℕ, ◌+◌, ◌<◌, ◌≤◌, List, ◌++◌, true, false, inl, inr, ap, sym, subst, ◌∙◌, arith, length-append, ◌-◌}
-use Rattle.std.specs.Prelude.{IsTrue, ◌&&◌, not, nat_le, nat_lt, filter, length}
+use Rattle.std.specs.Prelude.{IsTrue, Bool, ◌&&◌, not, nat_le, nat_lt, filter, length}
 use Rattle.pt_model.specs.declared.block.Block.{Block}
 use Rattle.pt_model.specs.declared.position.Position.{Position}
 use Rattle.pt_model.specs.Layout.{Layout}
@@ -19,6 +19,8 @@ use Rattle.pt_map.specs.Absent.{IsMissing, is_shown}
 use Rattle.pt_map.specs.Answers.{lacking, unknown}
 use Rattle.pt_map.proofs.NeededTables.{needs_over, needs_page, needs_sorted, needed_same}
 use Rattle.pt_tile.specs.Extents.{IsExtent, tables_below, tables_of, tiles}
+use Rattle.pt_map.specs.Replaced.{is_replaced, replaced}
+use Rattle.pt_map.proofs.ReplacedTables.{needed_stays, two_parts}
 use Rattle.pt_map.specs.Stands.{IsOwnTable}
 use Rattle.pt_tile.proofs.Needed.{needed_below}
 

@@ -2,10 +2,11 @@
 mod PiecesAdded
 mod BlocksAdded
 mod FirstMapped
--- Words of blocks, and the tables that blocks need.
+-- Words of blocks, the tables that blocks need, and those that they take the place of.
 mod BlockWords
 mod TopsOver
 mod NeededTables
+mod ReplacedTables
 mod PastRoot
 mod NearRoot
 mod LackingTables
@@ -16,7 +17,6 @@ mod StandAfter
 -- The look before a change: what is absent.
 mod AbsentShown
 mod AbsentCounted
-mod ReplacedTables
 mod SurveyFinds
 mod FramesDrawn
 -- Way is made: the tables that blocks take the place of are unlinked.

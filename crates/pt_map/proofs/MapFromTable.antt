@@ -27,14 +27,14 @@ use Rattle.pt_tile.specs.declared.extent.Extent.{Extent}
 use Rattle.pt_map.specs.declared.refused.MapRefused.{MapRefused}
 use Rattle.pt_map.specs.Absent.{Counted, is_shown}
 use Rattle.pt_map.specs.Answers.{FindsEach, IsRefused}
-use Rattle.pt_map.specs.Filled.{HasNoPiece, MayStore, Fills, MayFill, HasRoom}
+use Rattle.pt_map.specs.Filled.{HasNoPiece, MayStore, Fills, MayFill, HasRoom, top_with}
 use Rattle.pt_map.specs.Requests.{Gathered, IsLackOf, LacksFrames, MappedBelow, MayMapBelow, HasFrames, RefusedBelow}
 use Rattle.pt_map.specs.Replaced.{HasNoneReplaced, MayMakeWay, UnlinksReplaced, is_replaced, replaced}
 use Rattle.pt_map.specs.Stands.{StandsAt}
 use Rattle.pt_map.proofs.NeededTables.{has_below}
-use Rattle.pt_map.proofs.ReplacedTables.{needed_stays, replaced_none}
+use Rattle.pt_map.proofs.ReplacedTables.{needed_stays, replaced_none, two_parts}
 use Rattle.pt_map.proofs.WayMade.{unlinks_keep}
-use Rattle.pt_model.proofs.Positions.{among_filtered, among_passes, filter_in, filter_out, sorted_filter}
+use Rattle.pt_model.proofs.Positions.{among_filtered, among_passes, sorted_filter}
 use Rattle.pt_view.proofs.Loads.{absences_on}
 use Rattle.pt_tile.specs.Extents.{tables_below, tiles}
 use Rattle.pt_map.proofs.StandAfter.{stands_moves}
@@ -64,16 +64,6 @@ pub no_piece_kept : (f : Layout) → IsLayout f → (v w : View) (first end : �
 no_piece_kept f good v w first end owns pieces free =
     subst (λ (ps : List Piece). (page level : ℕ) → first ≤ page → page < end → pieces_at f (position_over f page level) (entry_number f level page) ps ≡ 0) (sym pieces)
     (no_piece_over f good v first end owns free)
-
--- those that pass a test, and those that don't
-two_parts : (t : Position → Bool) (ps : List Position) → length (filter t ps) + length (filter (λ p. not (t p)) ps) ≡ length ps
-two_parts t [] = refl
-two_parts t (p ∷ ps) =
-    let rest : length (filter t ps) + length (filter (λ q. not (t q)) ps) ≡ length ps = two_parts t ps in
-    elim (cases_Bool (t p)) [
-      | inl e ↦ (let a = ap length (filter_in t p ps e) in let b = ap length (filter_out (λ q. not (t q)) p ps (ap not e)) in omega arith)
-      | inr e ↦ (let a = ap length (filter_out t p ps e) in let b = ap length (filter_in (λ q. not (t q)) p ps (ap not e)) in omega arith)
-    ]
 
 -- what leaves the book leaves the count of linked positions
 pub linked_same : (v w : View) (aside : Aside) → SameRange v w → SameBook v w → linked_count w aside ≡ linked_count v aside
@@ -131,7 +121,8 @@ module _ {f : Layout} (good : IsLayout f) {tells : Type 0} {v c g : View} {x : E
   stands_kept : StandsAt f g x level
   stands_kept =
       stands_moves good may.stands may.stands.at.extent (let e : x.first ≤ x.first = omega arith in e) (let e : x.end ≤ x.end = omega arith in e) may.stands.at.low
-      (record { range = range_kept; top = book_kept.top; prepared = prepared_kept; known = λ l low h. known_kept (spine_position l) h }) path_kept
+      (record { range = range_kept; prepared = prepared_kept; known = λ l low h. known_kept (spine_position l) h }) path_kept
+      (let t = book_kept.top in let h = may.stands.high in omega arith)
 
   -- way may be made for the extent
   pub may_make : IsFree f v x.first x.end → MayMakeWay f g x level
@@ -171,7 +162,7 @@ module _ {f : Layout} (good : IsLayout f) {tells : Type 0} {v c g : View} {x : E
         let few : f.start ≤ g.levels = (let l = may.levels in let e = range_kept.levels in omega arith) in
         record {
           stands = stands_moves good stands_kept may.stands.at.extent (let e : x.first ≤ x.first = omega arith in e) (let e : x.end ≤ x.end = omega arith in e) may.stands.at.low
-              (unlinks_keep good may.stands.at.extent few made) made.path;
+              (unlinks_keep good may.stands.at.extent few made) made.path (let t = made.top in let h = stands_kept.high in omega arith);
           no_piece = no_piece_kept f good v z x.first x.end may.owns (made.pieces ∙ book_kept.pieces) free;
           no_table = λ p m b here. replaced_none f p (tiles f x) ((left_tables p).0 m).1 b here;
         }
@@ -305,7 +296,7 @@ module _ {f : Layout} (good : IsLayout f) {tells : Type 0} {v c g : View} {x : E
             path = filled.path ∙ made.path ∙ path_kept;
             prepared = filled.prepared ∙ made.prepared ∙ prepared_kept;
             end = filled.end ∙ made.end ∙ gathered.place.end ∙ walked.purse.end;
-            top = filled.top ∙ made.top ∙ book_kept.top;
+            top = filled.top ∙ (λ i. top_with f (range.levels i) ((made.top ∙ book_kept.top) i) (tiles f x));
             pieces = filled.pieces ∙ ap (λ (ps : List Piece). add_pieces f ps (all_pieces f (tiles f x))) (made.pieces ∙ book_kept.pieces);
             tables = λ p. (
               (λ m. elim ((filled.tables p).0 m) [

@@ -1,25 +1,25 @@
 -- Of the tables that an extent needs, those that end past the pages under the root: the others are those of its part there.
-use Rattle.std.proofs.Common.{◌≡◌, ℕ, zero, suc, ◌+◌, ◌-◌, ◌*◌, ◌/◌, ◌%◌, ◌^◌, ◌<◌, ◌≤◌, ◌⊎◌, ◌↔◌, List, [], ◌∷◌, ◌++◌, length, true, false, refl, ap, sym, subst, ◌∙◌, arith, inl, inr}
-use Rattle.std.specs.Prelude.{IsTrue, filter, map, min, not, nat_le, nat_lt}
-use Rattle.std.proofs.lemmas.Bool.{cases_lt, ltb-false, ltb-true, lt-ltb, le-ltb, not-true, not_from_false}
-use Rattle.std.proofs.lemmas.Nat.{div_below, le-div, mod_below, mul-le, pow-add, pow_below, pow_pos, shr_split}
+use Rattle.std.proofs.Common.{◌≡◌, ℕ, ◌+◌, ◌-◌, ◌*◌, ◌/◌, ◌^◌, ◌<◌, ◌≤◌, ◌⊎◌, List, [], ◌∷◌, ◌++◌, length, true, refl, ap, sym, subst, ◌∙◌, arith, inl, inr}
+use Rattle.std.specs.Prelude.{filter, map, not}
+use Rattle.std.proofs.lemmas.Bool.{cases_lt, ltb-false, le-ltb, not-true}
+use Rattle.std.proofs.lemmas.Nat.{div_below, mod_below, mul-le, pow-add, pow_below, pow_pos, shr_split}
 use Rattle.std.proofs.lemmas.List.Filters.{length-filter_both}
 use Rattle.std.proofs.lemmas.List.FromFn.{length-map-range_with_len}
 use Rattle.pt_model.specs.declared.block.Block.{Block}
 use Rattle.pt_model.specs.declared.block.Prot.{Prot}
 use Rattle.pt_model.specs.declared.position.Position.{Position}
-use Rattle.pt_model.specs.Layout.{Layout, end_of, input_pages, level_of_size, output_pages, pages, pages_of_entry, pages_of_table}
+use Rattle.pt_model.specs.Layout.{Layout, end_of, level_of_size, pages, pages_of_entry, pages_of_table}
 use Rattle.pt_model.specs.Sets.{IsAmong}
-use Rattle.pt_model.specs.Tables.{all_needed, end_of_table, is_spine, least_top, levels_between, needed, position_over, spine_position}
+use Rattle.pt_model.specs.Tables.{all_needed, end_of_table, least_top, levels_between, needed, position_over, spine_position}
 use Rattle.pt_model.specs.Tiling.{IsTiling}
-use Rattle.pt_model.proofs.Positions.{among_append, among_filtered, among_left, among_passes, among_right, levels_among, among_levels, same_members, sorted_filter, sorted_levels}
-use Rattle.pt_model.proofs.Tops.{above_top, power_mono, reaches_top, table_mono, top_low, top_mono}
+use Rattle.pt_model.proofs.Positions.{among_append, among_filtered, among_passes, among_right, same_members, sorted_filter, sorted_levels}
+use Rattle.pt_model.proofs.Tops.{above_top, power_mono, reaches_top, table_mono, top_mono}
 use Rattle.pt_format.specs.Laws.{IsLayout}
 use Rattle.pt_tile.specs.declared.extent.Extent.{Extent}
 use Rattle.pt_tile.specs.Extents.{IsExtent, IsOneBlock, first_size, from, tiles, under_entry, up_to}
-use Rattle.pt_tile.proofs.FirstParts.{IsTile, cut_part, rest_part, tile_of}
+use Rattle.pt_tile.proofs.FirstParts.{cut_part, rest_part, tile_of}
 use Rattle.pt_tile.proofs.FirstSizes.{extent_tiling, size_greatest}
-use Rattle.pt_tile.proofs.Levels.{in_levels, levels_in, size_low}
+use Rattle.pt_tile.proofs.Levels.{in_levels, levels_in}
 use Rattle.pt_tile.proofs.UnderEntries.{split_tiles}
 use Rattle.pt_map.specs.Past.{past_root, reaches_past}
 use Rattle.pt_map.proofs.NeededTables.{AnyNeeds, any_needs, index_some, needing, needs_any, needs_sorted, space_in_table}

@@ -1,6 +1,6 @@
 -- Tables that blocks take the place of.
 use Rattle.std.proofs.Common.{◌≡◌, ℕ, zero, suc, ◌+◌, ◌-◌, ◌*◌, ◌/◌, ◌%◌, ◌^◌, ◌<◌, ◌≤◌, Bool, true, false, List, [], ◌∷◌, ◌++◌, inl, inr, refl, ap, sym, subst, ◌∙◌, arith}
-use Rattle.std.specs.Prelude.{IsTrue, ◌&&◌, ◌||◌, nat_le, nat_lt}
+use Rattle.std.specs.Prelude.{◌||◌, filter, length, nat_le, nat_lt, not}
 use Rattle.std.proofs.lemmas.Bool.{and_from, and_parts, cases_Bool, cases_lt, false_from_ne_true, false≢true, leb-true, le-leb, ltb-true, lt-ltb, or_cases, or_left, or_right}
 use Rattle.std.proofs.lemmas.List.Folds.{list_any-append}
 use Rattle.std.proofs.lemmas.Nat.{mod-mul-add, mod_below, mul-le, pow_pos, shr_split}
@@ -13,6 +13,7 @@ use Rattle.pt_model.specs.Layout.{Layout, end_of, level_of_size, pages_of_table}
 use Rattle.pt_model.specs.Sets.{IsAmong}
 use Rattle.pt_model.specs.Tables.{end_of_table, position_over, spine_position, starting_top}
 use Rattle.pt_model.specs.Tiling.{IsTiling, block_at}
+use Rattle.pt_model.proofs.Positions.{filter_in, filter_out}
 use Rattle.pt_format.specs.Laws.{IsLayout}
 use Rattle.pt_tile.specs.Runs.{run_blocks}
 use Rattle.pt_tile.specs.declared.extent.Extent.{Extent}
@@ -24,7 +25,7 @@ use Rattle.pt_tile.proofs.Levels.{size_low}
 use Rattle.pt_view.specs.declared.view.View.{View}
 use Rattle.pt_walk.specs.Walks.{HasNoTable}
 use Rattle.pt_map.specs.Filled.{IsTableIn}
-use Rattle.pt_map.specs.Replaced.{HasNoneReplaced, begins_in, is_replaced}
+use Rattle.pt_map.specs.Replaced.{HasNoneReplaced, is_table_in, is_replaced}
 use Rattle.pt_map.specs.Stands.{IsExtentAt}
 use Rattle.pt_map.proofs.NeededTables.{needing, needs_any, needs_of_block}
 
@@ -48,13 +49,13 @@ table_ends index level log2 first base some low aligned whole within =
     ]
 
 module _ (f : Layout) (p : Position) where
-  begins_tells : (b : Block) → begins_in f p b ≡ true → IsTableIn f b p
+  begins_tells : (b : Block) → is_table_in f p b ≡ true → IsTableIn f b p
   begins_tells b e =
       let a = and_parts (nat_lt p.level (level_of_size f b.log2)) _ e in
       let c = and_parts (nat_le b.first p.base) _ a.1 in
       (ltb-true p.level (level_of_size f b.log2) a.0, leb-true b.first p.base c.0, ltb-true p.base (end_of b) c.1)
 
-  begins_is : (b : Block) → IsTableIn f b p → begins_in f p b ≡ true
+  begins_is : (b : Block) → IsTableIn f b p → is_table_in f p b ≡ true
   begins_is b h =
       and_from (nat_lt p.level (level_of_size f b.log2)) _ (lt-ltb p.level (level_of_size f b.log2) h.0)
       (and_from (nat_le b.first p.base) _ (le-leb b.first p.base h.1) (lt-ltb p.base (end_of b) h.2))
@@ -62,7 +63,7 @@ module _ (f : Layout) (p : Position) where
   -- a block takes the place of it
   pub replaced_tells : (bs : List Block) → is_replaced f bs p ≡ true → (b : Block) × IsOneBlock bs b × IsTableIn f b p
   replaced_tells [] e = absurd (false≢true e)
-  replaced_tells (b ∷ bs) e = elim (or_cases (begins_in f p b) (is_replaced f bs p) e) [
+  replaced_tells (b ∷ bs) e = elim (or_cases (is_table_in f p b) (is_replaced f bs p) e) [
     | inl here ↦ (b, inl refl, begins_tells b here)
     | inr more ↦ (let r : (c : Block) × IsOneBlock bs c × IsTableIn f c p = replaced_tells bs more in (r.0, inr r.1, r.2))
   ]
@@ -70,8 +71,8 @@ module _ (f : Layout) (p : Position) where
   pub replaced_is : (bs : List Block) (b : Block) → IsOneBlock bs b → IsTableIn f b p → is_replaced f bs p ≡ true
   replaced_is [] b m h = absurd m
   replaced_is (c ∷ cs) b m h = elim m [
-    | inl e ↦ or_left (begins_in f p c) (is_replaced f cs p) (begins_is c (subst (λ (d : Block). IsTableIn f d p) (sym e) h))
-    | inr more ↦ or_right (begins_in f p c) (is_replaced f cs p) (replaced_is cs b more h)
+    | inl e ↦ or_left (is_table_in f p c) (is_replaced f cs p) (begins_is c (subst (λ (d : Block). IsTableIn f d p) (sym e) h))
+    | inr more ↦ or_right (is_table_in f p c) (is_replaced f cs p) (replaced_is cs b more h)
   ]
 
   -- none does
@@ -82,11 +83,21 @@ module _ (f : Layout) (p : Position) where
   none_replaced bs none = false_from_ne_true (is_replaced f bs p) (λ e. let r = replaced_tells bs e in none r.0 r.1 r.2)
 
   pub replaced_append : (xs ys : List Block) → is_replaced f (xs ++ ys) p ≡ (is_replaced f xs p || is_replaced f ys p)
-  replaced_append xs ys = list_any-append (begins_in f p) xs ys
+  replaced_append xs ys = list_any-append (is_table_in f p) xs ys
 
 -- one test or another fails
 pub or_false : (a b : Bool) → a ≡ false → b ≡ false → (a || b) ≡ false
 or_false a b e d = false_from_ne_true (a || b) (λ h. elim (or_cases a b h) [ inl x ↦ false≢true (sym e ∙ x) | inr y ↦ false≢true (sym d ∙ y) ])
+
+-- those that pass a test, and those that don't
+pub two_parts : (t : Position → Bool) (ps : List Position) → length (filter t ps) + length (filter (λ p. not (t p)) ps) ≡ length ps
+two_parts t [] = refl
+two_parts t (p ∷ ps) =
+    let rest : length (filter t ps) + length (filter (λ q. not (t q)) ps) ≡ length ps = two_parts t ps in
+    elim (cases_Bool (t p)) [
+      | inl e ↦ (let a = ap length (filter_in t p ps e) in let b = ap length (filter_out (λ q. not (t q)) p ps (ap not e)) in omega arith)
+      | inr e ↦ (let a = ap length (filter_out t p ps e) in let b = ap length (filter_in (λ q. not (t q)) p ps (ap not e)) in omega arith)
+    ]
 
 -- Runs of blocks.
 

@@ -123,7 +123,6 @@ module _ {f : Layout} (good : IsLayout f) {v : View} {x : Extent} {level cap : �
       λ e. no_table_replaced good may.at (no_table_here good may.at.range entry.one load (λ other. not_both empty other)),
     );
   }
-
     where
       not_both : {s : Seen} → s ≡ Empty → s ≡ Entered → ⊥
       not_both a b = cc

@@ -1,14 +1,14 @@
 -- The tables of a book after a map.
 use Rattle.std.proofs.lemmas.Bool.{and_from, and_parts, cases_Bool, cases_lt, false_from_ne_true, false≢true, leb-true, le-leb, not-true, or_cases, or_left, or_right}
 use Rattle.std.proofs.Common.{◌≡◌, ℕ, suc, ◌+◌, ◌*◌, ◌/◌, ◌%◌, ◌^◌, ◌<◌, ◌≤◌, ◌⊎◌, ◌↔◌, List, [], ◌∷◌, Bool, true, false, inl, inr, refl, ap, sym, subst, ◌∙◌, arith}
-use Rattle.std.specs.Prelude.{IsTrue, ◌||◌, nat_le, not, filter, length, slice_index_or, AllPairs}
+use Rattle.std.specs.Prelude.{IsTrue, nat_le, not, filter, length, slice_index_or, AllPairs}
 use Rattle.std.specs.List.{list_any}
-use Rattle.std.proofs.lemmas.Nat.{le-div, pow_pos}
+use Rattle.std.proofs.lemmas.Nat.{le-div, pow-add, pow_pos}
 use Rattle.std.proofs.Math.Pow.{pow_mono}
 use Rattle.pt_model.specs.declared.block.Block.{Block}
 use Rattle.pt_model.specs.declared.position.Position.{Position}
-use Rattle.pt_model.specs.Layout.{Layout, end_of, level_of_size, pages_of_table}
-use Rattle.pt_model.specs.Tables.{add_positions, end_of_table, is_before, is_spine, all_needed}
+use Rattle.pt_model.specs.Layout.{Layout, end_of, pages_of_table}
+use Rattle.pt_model.specs.Tables.{end_of_table, is_before, is_spine, all_needed}
 use Rattle.pt_model.specs.Sets.{IsSorted, IsAmong}
 use Rattle.pt_model.specs.Book.{table_lies_in}
 use Rattle.pt_model.proofs.Positions.{among_none, adds_by_members, among_filtered, among_passes, among_cases, sorted_filter}
@@ -66,7 +66,7 @@ lies_low index level log2 first base some from to =
     let j : ℕ = index * (level + 1) in
     let fits : j ≤ log2 = elim (cases_lt log2 j) [
       | inl less ↦ absurd (let wide : 2 ^ (log2 + 1) ≤ 2 ^ j = pow_mono (let h : log2 + 1 ≤ j = omega arith in h) in
-          let twice : 2 ^ (log2 + 1) ≡ 2 * 2 ^ log2 = refl in let one = pow_pos log2 in omega arith)
+          let twice : 2 ^ (log2 + 1) ≡ 2 ^ log2 * 2 = pow-add 2 log2 1 in let one = pow_pos log2 in omega arith)
       | inr fine ↦ fine
     ] in
     let h : level + 1 ≤ log2 / index = le-div (level + 1) log2 index some (let c : (level + 1) * index ≡ index * (level + 1) = omega arith in omega arith) in omega arith

@@ -1,16 +1,14 @@
 -- The turns in which way is made for an extent: one part of it after the other, each a run of blocks or under one entry.
-use Rattle.std.proofs.Common.{◌≡◌, ℕ, ◌+◌, ◌-◌, ◌*◌, ◌/◌, ◌%◌, ◌^◌, ◌<◌, ◌≤◌, Bool, true, false, List, [], ◌∷◌, ◌++◌, inl, inr, refl, ap, sym, subst, ◌∙◌, arith, append_assoc}
-use Rattle.std.specs.Prelude.{◌||◌, not, filter, length}
-use Rattle.std.proofs.lemmas.Bool.{cases_Bool, false_from_ne_true, false≢true, not-true, or_left, or_right}
+use Rattle.std.proofs.Common.{◌≡◌, ℕ, ◌+◌, ◌-◌, ◌*◌, ◌%◌, ◌^◌, ◌<◌, ◌≤◌, true, List, [], ◌++◌, inl, inr, refl, ap, sym, subst, ◌∙◌, arith, append_assoc}
+use Rattle.std.specs.Prelude.{◌||◌, not}
+use Rattle.std.proofs.lemmas.Bool.{cases_Bool, false_from_ne_true, false≢true, or_left, or_right}
 use Rattle.std.proofs.lemmas.List.{append-nil}
 use Rattle.std.proofs.lemmas.Nat.{le-div, pow_pos}
 use Rattle.pt_model.specs.declared.block.Block.{Block}
 use Rattle.pt_model.specs.declared.position.Position.{Position}
-use Rattle.pt_model.specs.Layout.{Layout, level_of_size, pages_of_entry, pages_of_table}
-use Rattle.pt_model.specs.Sets.{IsAmong}
-use Rattle.pt_model.specs.Tables.{spine_position, starting_top}
+use Rattle.pt_model.specs.Layout.{Layout, level_of_size, pages_of_table}
+use Rattle.pt_model.specs.Tables.{spine_position}
 use Rattle.pt_model.specs.Tiling.{tiling}
-use Rattle.pt_model.proofs.Positions.{among_filtered}
 use Rattle.pt_format.specs.Laws.{IsLayout}
 use Rattle.pt_tile.specs.declared.extent.Extent.{Extent}
 use Rattle.pt_tile.specs.Extents.{IsExtent, IsFirstTo, IsOneBlock, IsRun, first_size, from, tiles, under_entry, up_to}
@@ -26,14 +24,14 @@ use Rattle.pt_view.proofs.Loads.{IsLoad, loads_here, no_table, table_loads, tabl
 use Rattle.pt_view.proofs.Paths.{front_snoc}
 use Rattle.pt_walk.specs.Walks.{IsOverRange}
 use Rattle.pt_walk.proofs.Ranges.{no_table_here, range_from}
-use Rattle.pt_sweep.specs.Empties.{IsEmptyRange, Unlinks, lies_below}
+use Rattle.pt_sweep.specs.Empties.{Unlinks, lies_below}
+use Rattle.pt_sweep.specs.EmptyRanges.{IsEmptyRange}
 use Rattle.pt_sweep.proofs.Empties.{back_unlinks, loads_unlink, unlinks_as, unlinks_on}
 use Rattle.pt_sweep.proofs.EmptyTables.{below_is, below_tells, empty_kept, empty_loads, empty_part}
 use Rattle.pt_map.specs.Replaced.{HasNoneReplaced, MayMakeWay, UnlinksReplaced, is_replaced}
 use Rattle.pt_map.specs.Stands.{IsEntryExtent, IsExtentAt}
-use Rattle.pt_map.proofs.AbsentCounted.{inner_at}
 use Rattle.pt_map.proofs.AbsentShown.{open_part}
-use Rattle.pt_map.proofs.ReplacedTables.{no_table_replaced, or_false, replaced_append, replaced_ends, replaced_inside, replaced_is, run_covers, run_size, spine_stays}
+use Rattle.pt_map.proofs.ReplacedTables.{no_table_replaced, replaced_append, replaced_ends, replaced_inside, replaced_is, run_covers, run_size, spine_stays}
 use Rattle.pt_map.proofs.StandAfter.{Keeps, at_moves, keeps_here}
 
 -- nothing was unlinked where no block takes the place of a table

@@ -7,7 +7,7 @@ use Rattle.pt_model.specs.declared.position.Position.{Position}
 use Rattle.pt_model.specs.declared.block.Block.{Block}
 use Rattle.pt_model.specs.Layout.{Layout, IsLegalBlock, end_of, level_of_size, pages_of_entry}
 use Rattle.pt_model.specs.Sets.{IsAmong}
-use Rattle.pt_model.specs.Tables.{is_spine, least_top, position_over}
+use Rattle.pt_model.specs.Tables.{is_spine, position_over}
 use Rattle.pt_model.specs.Tiling.{IsTiling}
 use Rattle.pt_model.proofs.Positions.{among_filtered, among_passes}
 use Rattle.pt_model.proofs.TilingFacts.{tiling_is}

@@ -6,18 +6,18 @@ use Rattle.pt_model.specs.declared.position.Position.{Position}
 use Rattle.pt_model.specs.Layout.{Layout, end_of, level_of_size}
 use Rattle.pt_model.specs.Sets.{IsAmong}
 use Rattle.pt_tile.specs.declared.extent.Extent.{Extent}
-use Rattle.pt_tile.specs.Extents.{tiles}
 use Rattle.pt_view.specs.declared.view.View.{View}
-use Rattle.pt_sweep.specs.Empties.{IsEmptyRange, Unlinks}
+use Rattle.pt_sweep.specs.Empties.{Unlinks}
+use Rattle.pt_sweep.specs.EmptyRanges.{IsEmptyRange}
 use Rattle.pt_map.specs.Stands.{IsExtentAt}
 
 -- whether a table begins in a block, and is of a level below that of the table in which the block stands
-abbrev pub begins_in : Layout → Position → Block → Bool
-begins_in f p b = nat_lt p.level (level_of_size f b.log2) && (nat_le b.first p.base && nat_lt p.base (end_of b))
+abbrev pub is_table_in : Layout → Position → Block → Bool
+is_table_in f p b = nat_lt p.level (level_of_size f b.log2) && (nat_le b.first p.base && nat_lt p.base (end_of b))
 
 -- whether one of these blocks takes the place of a table
 abbrev pub is_replaced : Layout → List Block → Position → Bool
-is_replaced f blocks p = list_any (begins_in f p) blocks
+is_replaced f blocks p = list_any (is_table_in f p) blocks
 
 -- the tables of the book that they take the place of; none of them
 abbrev pub replaced : Layout → View → List Block → List Position

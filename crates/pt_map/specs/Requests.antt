@@ -18,11 +18,12 @@ use Rattle.pt_view.specs.Pieces.{add_pieces, all_pieces}
 use Rattle.pt_view.specs.Views.{IsAtRest, SameRange, book_of}
 use Rattle.pt_walk.specs.Walks.{IsClear, IsFree, IsLowest, OwnsAll, Rests}
 use Rattle.pt_sweep.specs.Draws.{KeepsBook, SamePlace}
-use Rattle.pt_sweep.specs.Empties.{IsBookTable}
+use Rattle.pt_sweep.specs.Sweeps.{IsBookTable}
 use Rattle.pt_map.specs.declared.refused.MapRefused.{MapRefused}
 use Rattle.pt_map.specs.declared.refused.MapRefused.TheVariants as refused
 use Rattle.pt_map.specs.Absent.{Counted, IsMissing, is_shown}
 use Rattle.pt_map.specs.Answers.{FindsEach, IsRefused, KeepsPurse, extent_at, refusal_of}
+use Rattle.pt_map.specs.Filled.{top_with}
 use Rattle.pt_map.specs.Replaced.{is_replaced, replaced}
 use Rattle.pt_map.specs.Stands.{IsOwnTable, StandsAt}
 
@@ -142,7 +143,7 @@ pub record MappedBelow (f : Layout) (tells alone : Type 0) (linked : ℕ) (v w :
   pub path : w.path ≡ v.path
   pub prepared : w.prepared ≡ v.prepared
   pub end : w.end ≡ v.end
-  pub top : w.top ≡ v.top
+  pub top : w.top ≡ top_with f v.levels v.top (tiles f x)
   pub pieces : w.pieces ≡ add_pieces f v.pieces (all_pieces f (tiles f x))
   pub tables : (p : Position) → IsAmong w.tables p ↔
       ((IsAmong v.tables p × (is_replaced f (tiles f x) p ≡ false)) ⊎ (IsAmong (tables_of f x) p × (is_spine v.levels p ≡ false)))

@@ -23,7 +23,9 @@ use Rattle.pt_view.proofs.Loads.{IsLoad, absences_here, loads_here, load_none, l
 use Rattle.pt_view.proofs.Paths.{front_snoc}
 use Rattle.pt_walk.specs.Walks.{IsOverRange, IsOwn}
 use Rattle.pt_walk.proofs.Descent.{leaf_found, owns_on}
-use Rattle.pt_sweep.specs.Empties.{IsBookTable, IsEmptyRange, Unlinks, lies_below}
+use Rattle.pt_sweep.specs.Empties.{Unlinks, lies_below}
+use Rattle.pt_sweep.specs.EmptyRanges.{IsEmptyRange}
+use Rattle.pt_sweep.specs.Sweeps.{IsBookTable}
 use Rattle.pt_sweep.proofs.Empties.{back_unlinks, loads_unlink, unlinks_as, unlinks_on}
 
 -- Whether a table lies in a range, below a level.

@@ -7,8 +7,15 @@
 
 mod empty;
 mod frames;
+mod refused;
+mod request;
 mod root;
+mod sweep;
+mod tables;
 
-pub use empty::{clear_empty, clear_tables};
+pub use empty::clear_empty;
 pub use frames::draw;
+pub use refused::UnmapRefused;
+pub use request::unmap;
 pub use root::raise;
+pub use tables::clear_tables;

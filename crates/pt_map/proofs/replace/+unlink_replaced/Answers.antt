@@ -9,7 +9,6 @@ use Rattle.pt_sweep.proofs.EmptyTables.{some_path}
 use Rattle.pt_map.proofs.AbsentShown.{level_high}
 use Rattle.pt_map.proofs.AbsentCounted.{inner_entry, inner_to}
 use Rattle.pt_map.proofs.WayMade.{inner_unlinked, making_all, making_next, making_none, may_make_inner, may_make_inside, none_lowest, none_unlinked, run_empty, run_range, run_to, run_unlinked, unlinked_entered, unlinked_none}
-use Rattle.pt_map.proofs.replace.+unlink_replaced.Given.{Over}
 use Rattle.pt_map.proofs.replace.+unlink_replaced.Goals as goal
 
 -- by the index width of the code

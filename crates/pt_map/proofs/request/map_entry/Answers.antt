@@ -17,7 +17,7 @@ first_at-under-requires-clause-one g c =
 
 -- no page is mapped there
 free : (g : Over) (c : In_default g) → IsFree g.F.Format.layout (g.H.Holder.view c.args.holder.now) c.args.extent.first c.args.extent.end
-free g c = under_free g.F.Format.layout c.args.extent.first c.args.extent.end c.args.level c.first_at-under.result c.in_default.not-Mapped (record { pieces = refl; tables = refl; top = refl }) (c.first_at-under.ensures.under c.requires.may.clear)
+free g c = under_free g.F.Format.layout {v = g.H.Holder.view c.args.holder.now} {w = g.H.Holder.view c.args.holder.now} c.args.extent.first c.args.extent.end c.args.level c.first_at-under.result c.in_default.not-Mapped (record { pieces = refl; tables = refl; top = refl }) (c.first_at-under.ensures.under c.requires.may.clear)
 
 pub make_way-requires-clause-may : goal.make_way-requires-clause-may
 make_way-requires-clause-may g c =
