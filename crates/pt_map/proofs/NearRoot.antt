@@ -2,7 +2,7 @@
 -- its blocks take the place of.
 use Rattle.std.proofs.Common.{◌≡◌, ℕ, Bool, ◌+◌, ◌-◌, ◌*◌, ◌^◌, ◌<◌, ◌≤◌, ◌↔◌, List, ◌∷◌, [], ◌++◌, length, true, false, inl, inr, refl, ap, sym, subst, ◌∙◌, arith}
 use Rattle.std.specs.Prelude.{IsTrue, Some, ◌==◌, ◌&&◌, ◌||◌, filter, map, not, nat_le, nat_lt}
-use Rattle.std.proofs.lemmas.Bool.{and_from, and_parts, cases_Bool, cases_lt, eq-eqb, false_from_ne_true, false≢true, le-leb, leb-true, lt-ltb, not-true, or_left}
+use Rattle.std.proofs.lemmas.Bool.{and_from, and_parts, cases_Bool, cases_lt, eq-eqb, eqb-true, false_from_ne_true, false≢true, le-leb, leb-true, lt-ltb, not-true, or_left}
 use Rattle.std.proofs.Math.Bool.{or-false}
 use Rattle.std.proofs.lemmas.Nat.{pow_pos}
 use Rattle.std.specs.List.{list_any}
@@ -11,7 +11,7 @@ use Rattle.pt_model.specs.declared.position.Position.{Position}
 use Rattle.pt_model.specs.Layout.{Layout, end_of, input_pages, pages_of_table}
 use Rattle.pt_model.specs.Sets.{IsAmong}
 use Rattle.pt_model.specs.Tables.{all_needed, end_of_table, is_spine, levels_between, position_over, spine_position, starting_top}
-use Rattle.pt_model.proofs.Positions.{among_filtered, among_here, among_more, among_passes, filter_in, filter_out}
+use Rattle.pt_model.proofs.Positions.{among_filtered, among_here, among_more, among_passes, filter_in, filter_out, same_position}
 use Rattle.pt_model.proofs.Quotients.{root_over}
 use Rattle.pt_model.proofs.Tops.{table_mono}
 use Rattle.pt_format.specs.Laws.{IsLayout}
@@ -44,6 +44,12 @@ use Rattle.pt_map.proofs.PastRoot.{far_block, is_not_past, low_spine, near, near
 
 pub spine_is : (levels level : ℕ) → levels - 1 ≤ level → is_spine levels (spine_position level) ≡ true
 spine_is levels level low = and_from (nat_le (levels - 1) level) (0 == 0) (le-leb (levels - 1) level low) (eq-eqb 0 0 refl)
+
+-- a position of the spine is over page 0
+pub spine_back : (levels : ℕ) (p : Position) → is_spine levels p ≡ true → (starting_top levels ≤ p.level) × (p ≡ spine_position p.level)
+spine_back levels p e =
+    let b = and_parts (nat_le (starting_top levels) p.level) (p.base == 0) e in
+    (leb-true (starting_top levels) p.level b.0, same_position p (spine_position p.level) refl (eqb-true p.base 0 b.1))
 
 -- tables that are unlinked by a test are so by one that tells the same of the book's tables and of the known positions
 unlinks_for : {f : Layout} {tells alone : Type 0} {v w : View} (p r : Position → Bool) → ((q : Position) → IsAmong v.tables q → r q ≡ p q) → ((q : Position) → r q ≡ false → p q ≡ false) →

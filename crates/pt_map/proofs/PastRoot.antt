@@ -1,6 +1,6 @@
 -- Of the tables that an extent needs, those that end past the pages under the root: the others are those of its part there.
 use Rattle.std.proofs.Common.{◌≡◌, ℕ, ◌+◌, ◌-◌, ◌*◌, ◌/◌, ◌^◌, ◌<◌, ◌≤◌, ◌⊎◌, List, [], ◌∷◌, ◌++◌, length, true, refl, ap, sym, subst, ◌∙◌, arith, inl, inr}
-use Rattle.std.specs.Prelude.{filter, map, not}
+use Rattle.std.specs.Prelude.{filter, map, min, not}
 use Rattle.std.proofs.lemmas.Bool.{cases_lt, ltb-false, le-ltb, not-true}
 use Rattle.std.proofs.lemmas.Nat.{div_below, mod_below, mul-le, pow-add, pow_below, pow_pos, shr_split}
 use Rattle.std.proofs.lemmas.List.Filters.{length-filter_both}

@@ -16,7 +16,7 @@ use Rattle.pt_view.specs.Loads.{ByLoads}
 use Rattle.pt_view.specs.Pieces.{add_pieces, all_pieces}
 use Rattle.pt_view.specs.Views.{SameRange}
 use Rattle.pt_walk.specs.Walks.{IsFree, IsLowest, OwnsAll}
-use Rattle.pt_sweep.specs.Empties.{IsBookTable}
+use Rattle.pt_sweep.specs.Sweeps.{IsBookTable}
 use Rattle.pt_sweep.specs.Raises.{AtRoot}
 use Rattle.pt_map.specs.declared.refused.MapRefused.{MapRefused}
 use Rattle.pt_map.specs.declared.refused.MapRefused.TheVariants as refused
