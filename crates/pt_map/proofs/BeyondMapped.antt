@@ -105,7 +105,7 @@ module _ {f : Layout} (good : IsLayout f) {v : View} {x : Extent} {root : ℕ} (
   abbrev off : List Position
   off = filter (λ p. not (is_spine n p)) past
 
-  spine_past : (level : ℕ) → root < level → level ≤ top → IsAmong past (spine_position level)
+  pub spine_past : (level : ℕ) → root < level → level ≤ top → IsAmong past (spine_position level)
   spine_past level from to =
       let some = index_some good in
       let step = mul-le f.index (root + 2) f.index (level + 1) (omega arith) (omega arith) in

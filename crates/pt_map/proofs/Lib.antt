@@ -36,3 +36,4 @@ mod MapResults
 mod MapFromRoot
 mod MapAnswers
 mod BeyondMapped
+mod BeyondAnswers

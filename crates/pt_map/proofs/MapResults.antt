@@ -31,7 +31,7 @@ use Rattle.pt_map.specs.Requests.{LacksFrames, MappedBelow, HasCause, RefusedBel
 use Rattle.pt_map.proofs.AbsentCounted.{own_on, shown_right}
 use Rattle.pt_map.proofs.BlocksAdded.{Apart, adds_pieces, in_order_from}
 use Rattle.pt_map.proofs.FirstMapped.{first_mapped, free_apart, none_mapped}
-use Rattle.pt_map.proofs.LackingTables.{absent_all, absent_few, absent_most, absent_shown, tables_more}
+use Rattle.pt_map.proofs.LackingTables.{absent_all, absent_few, absent_most, absent_shown, all_off, tables_more}
 use Rattle.pt_map.specs.Replaced.{is_replaced, replaced}
 use Rattle.pt_map.specs.Filled.{top_with}
 use Rattle.pt_map.proofs.TopsOver.{top_of_tiling}
@@ -190,7 +190,8 @@ module _ {f : Layout} (good : IsLayout f) {tells : Type 0} {v d : View} {blocks 
       links_all =
           let all = all_here alone a reach under over m.absent m.are_absent.once m.are_absent.missing (m.are_absent.all a) in
           let room = m.room a in let frames = frames_same in
-          let more = tables_more good v blocks stand.extent stand.start stand.few reach w.tables stand.sorted sorted_after tables_same in
+          let more = tables_more good v blocks stand.extent stand.start stand.few w.tables stand.sorted sorted_after tables_same in
+          let every = ap length (all_off good v blocks stand.extent stand.start stand.few reach) in
           let top : w.top ≡ v.top = (let after = top_after in let some = stand.extent.some in
           let ends : x.first + (x.end - x.first) ≡ x.end = omega arith in
           let least : least_top f v.levels (x.first + (x.end - x.first)) ≡ least_top f v.levels x.end = ap (least_top f v.levels) ends in omega arith) in

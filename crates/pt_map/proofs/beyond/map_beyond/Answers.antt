@@ -8,6 +8,7 @@ use Rattle.pt_map.specs.Beyond.{FindsNear}
 use Rattle.pt_map.specs.declared.survey.Found.TheVariants.{Absent}
 use Rattle.pt_map.specs.Past.{past_root}
 use Rattle.pt_map.proofs.NeededTables.{space_in_table}
+use Rattle.pt_map.proofs.BeyondAnswers.{may_beyond}
 use Rattle.pt_map.proofs.BeyondMapped.{lack_beyond, mapped_beyond, may_fill, may_make_way, may_raise, occupied_beyond}
 use Rattle.pt_map.proofs.beyond.map_beyond.Given.{Over}
 use Rattle.pt_map.proofs.beyond.map_beyond.Goals as goal
