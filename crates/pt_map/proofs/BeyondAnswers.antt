@@ -26,6 +26,7 @@ use Rattle.pt_view.specs.declared.view.Absence.{Absence}
 use Rattle.pt_view.specs.declared.view.Absence.TheVariants.{Top}
 use Rattle.pt_view.specs.declared.view.Change.{Change}
 use Rattle.pt_view.specs.declared.view.Change.TheVariants.{Written}
+use Rattle.pt_view.specs.declared.view.Node.{Node}
 use Rattle.pt_view.specs.declared.view.Piece.{Piece}
 use Rattle.pt_view.specs.Calls.{Rooted}
 use Rattle.pt_view.specs.Pieces.{add_pieces, all_pieces}
@@ -55,6 +56,7 @@ use Rattle.pt_map.proofs.NeededTables.{index_some, needs_sorted}
 use Rattle.pt_map.proofs.PastRoot.{low_spine, past_top}
 use Rattle.pt_map.proofs.MapResults.{Standing, rested}
 use Rattle.pt_map.proofs.MapResults as results
+use Rattle.pt_map.proofs.MapFromTable.{linked_same}
 use Rattle.pt_map.proofs.TablesAfter.{member_at, sorted_tables, tables_after}
 
 -- An extent of a holder at rest may be mapped, and the root was loaded, which is too low for it.
@@ -409,3 +411,129 @@ module _ {f : Layout} (good : IsLayout f) {tells alone : Type 0} {v u : View} {x
           length-append m.freed (m.drawn ++ u.purse) ∙ ap (λ (n : ℕ). length m.freed + n) (length-append m.drawn u.purse) in
           let right = length-append m.used w.purse in
           record { enough = omega arith; linked = omega arith; none_lost = omega arith }
+
+  -- It was refused.
+  module _ (blocks : List Block) (rest : IsAtRest f v blocks) (alone_u : Type 0) (linked : ℕ) (w : View) where
+    here : Standing f tells v u blocks x root
+    here = standing blocks rest
+
+    unmapped : IsFree f u x.first x.end → lowest_mapped (book_of v blocks) x.first x.end ≡ None
+    unmapped free = none_mapped good rest x.first x.end may.inside.extent.some (free_on f x.first x.end rooted.book free)
+
+    pub is_refused : (e : MapRefused) → HasCauseBeyond f tells alone_u linked u w x root e → occupied f x (book_of v blocks) ≡ refusal_of e
+    is_refused (refused.NoFrames absent held) h = ap (λ o. option_map (λ page. Occupied (byte_at f page)) o) (unmapped h.free)
+    is_refused (refused.Occupied address) h =
+        ap (λ o. option_map (λ page. Occupied (byte_at f page)) o) (first_mapped good rest here.lawful owns x.first x.end h.0 (lowest_on rooted.book h.2))
+        ∙ ap (λ (n : ℕ). Some (Occupied n)) (sym h.1)
+    is_refused refused.Misaligned h = absurd h
+    is_refused refused.OutsideLease h = absurd h
+    is_refused refused.OutputRange h = absurd h
+
+    -- want of frames
+    module _ {absent held : ℕ} (l : LacksBeyond f tells alone_u linked u w x root absent held) where
+      far_count : length (past_root f u.levels root x) ≡ length far
+      far_count = ap length far_same
+
+      wants : WantsFrames f tells v (rested w) blocks x absent held
+      wants =
+          let n = l.counted in let c = n.count_is in let sum = l.sum in let e = far_count in let frames = rooted.range.frames in
+          let purse = rooted.purse.purse in
+          record {
+            more = l.lacks.more;
+            held_is = l.lacks.held_is;
+            found = record {
+              capped = omega arith;
+              few = (let s = few_unknown blocks n.absent n.once n.missing in omega arith);
+              shown = λ t.
+                  let told = n.told t in
+                  let s = few_shown blocks n.absent n.once n.missing told.0 told.2 in
+                  (Top root ∷ [] ++ told.0, told.1 ∙ ap (λ (xs : List Absence). xs ++ told.0) (rooted.told t).1 ∙ append_assoc v.absent (Top root ∷ []) told.0, omega arith);
+            };
+            idle = λ over. l.lacks.idle (omega arith) ∙ purse;
+            tried = λ t. elim (l.lacks.tried t) [
+              | inl over ↦ inl (omega arith)
+              | inr each ↦ inr (results.each_by good here t each)
+            ];
+          }
+
+      short : alone → alone_u → (v.frames < linked + length (lacking f v blocks x)) × (absent ≡ min (v.frames + 1) (length (lacking f v blocks x)))
+      short a a_u =
+          let n = l.counted in let c = n.count_is in let sum = l.sum in let e = far_count in let frames = rooted.range.frames in
+          let more = l.lacks.more in let is = l.lacks.held_is in
+          let most = few_lacking blocks n.absent n.once n.missing in
+          elim (cases_lt l.near (u.frames + 1)) [
+            | inl fits ↦
+                let all = all_lacking blocks n.absent n.once n.missing a (n.all a_u fits) in
+                elim (l.lacks.all a_u) [
+                  | inl none ↦ (omega arith, omega arith)
+                  | inr sum' ↦ (omega arith, omega arith)
+                ]
+            | inr many' ↦ (omega arith, omega arith)
+          ]
+
+    pub is_wanting : (e : MapRefused) → HasCauseBeyond f tells alone_u linked u w x root e → IsWanting f tells v (rested w) blocks x e
+    is_wanting (refused.NoFrames absent held) h = wants h
+    is_wanting refused.Misaligned h = tt
+    is_wanting refused.OutsideLease h = tt
+    is_wanting refused.OutputRange h = tt
+    is_wanting (refused.Occupied address) h = tt
+
+    pub is_short_of : alone → alone_u → (e : MapRefused) → HasCauseBeyond f tells alone_u linked u w x root e → IsShortOf f v linked blocks x e
+    is_short_of a a_u (refused.NoFrames absent held) h = short h a a_u
+    is_short_of a a_u refused.Misaligned h = tt
+    is_short_of a a_u refused.OutsideLease h = tt
+    is_short_of a a_u refused.OutputRange h = tt
+    is_short_of a a_u (refused.Occupied address) h = tt
+
+  -- The root's table is left in the end.
+  module _ (alone_u : Type 0) (linked : ℕ) (w z : View) (r : Result (Unit {0}) MapRefused) (ends : EndsBeyond f tells alone_u linked u w x root r)
+      (left : (front nodes : List Node) → w.path ≡ front ++ nodes → length nodes ≡ 1 → z ≡ record w { path = front }) where
+    pub one_table : (r : Result (Unit {0}) MapRefused) → EndsBeyond f tells alone_u linked u w x root r → length w.path ≡ 1
+    one_table (Ok t) m = ap length m.path.1.1
+    one_table (Err e) m = ap length (m.stays.path ∙ rooted.path.1)
+
+    at_rest : z ≡ rested w
+    at_rest = left [] w.path refl (one_table r ends)
+
+    mapped : MappedBeyond f tells alone_u linked u w x root → (blocks : List Block) → IsAtRest f v blocks → IsMapped f tells v z blocks x
+    mapped m blocks rest = subst (λ (y : View). IsMapped f tells v y blocks x) (sym at_rest) (is_mapped blocks rest m)
+
+    answers_by : (r : Result (Unit {0}) MapRefused) → EndsBeyond f tells alone_u linked u w x root r → Answers f tells v z (occupied f x) x r
+    answers_by (Ok t) m = record {
+      range = (mapped m may.rest.0 may.rest.1).range;
+      accepted = λ blocks rest. accepts blocks rest m;
+      mapped = mapped m;
+    }
+    answers_by (Err e) m =
+        let stand = standing may.rest.0 may.rest.1 in
+        record {
+          stays = subst (IsRefused f tells v) (sym at_rest) (results.stays_by good stand m.stays may.rest.1.path);
+          purse = subst (λ (y : View). KeepsPurse v y e) (sym at_rest) (results.keeps_purse good stand w e m.purse);
+          refused = λ blocks rest. is_refused blocks rest alone_u linked w e m.cause;
+          wants = λ blocks rest. subst (λ (y : View). IsWanting f tells v y blocks x e) (sym at_rest) (is_wanting blocks rest alone_u linked w e m.cause);
+        }
+
+    pub answers_beyond : Answers f tells v z (occupied f x) x r
+    answers_beyond = answers_by r ends
+
+    rests_by : (r : Result (Unit {0}) MapRefused) → Answers f tells v z (occupied f x) x r → Rests f z
+    rests_by (Ok t) m = (_, (m.mapped may.rest.0 may.rest.1).rest)
+    rests_by (Err e) m =
+        let s = m.stays in let rest = may.rest in
+        (rest.0, record { path = s.path ∙ rest.1.path; prepared = s.prepared ∙ rest.1.prepared; end = s.end ∙ rest.1.end; pieces = s.book.pieces ∙ rest.1.pieces })
+
+    pub rests_beyond : Rests f z
+    rests_beyond = rests_by r answers_beyond
+
+    -- over a lone holder, which has set this aside
+    module _ (aside : Aside) (is : linked ≡ linked_count v aside) (a : alone) (a_u : alone_u) where
+      accounts_by : (r : Result (Unit {0}) MapRefused) → EndsBeyond f tells alone_u linked u w x root r → Accounts f v z aside x r
+      accounts_by (Ok t) m = λ blocks rest. subst (λ (y : View). LinksAll f v y aside blocks x) (sym at_rest) (links_all blocks rest m aside is a a_u)
+      accounts_by (Err e) m =
+          let s = results.stays_by good (standing may.rest.0 may.rest.1) m.stays may.rest.1.path in (
+            ap (λ (y : View). linked_count y aside) at_rest ∙ linked_same v (rested w) aside s.range s.book,
+            λ blocks rest. subst (λ (n : ℕ). IsShortOf f v n blocks x e) is (is_short_of blocks rest alone_u linked w a a_u e m.cause),
+          )
+
+      pub accounts_beyond : Accounts f v z aside x r
+      accounts_beyond = accounts_by r ends

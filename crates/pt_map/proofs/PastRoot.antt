@@ -8,7 +8,7 @@ use Rattle.std.proofs.lemmas.List.FromFn.{length-map-range_with_len}
 use Rattle.pt_model.specs.declared.block.Block.{Block}
 use Rattle.pt_model.specs.declared.block.Prot.{Prot}
 use Rattle.pt_model.specs.declared.position.Position.{Position}
-use Rattle.pt_model.specs.Layout.{Layout, end_of, level_of_size, pages, pages_of_entry, pages_of_table}
+use Rattle.pt_model.specs.Layout.{Layout, end_of, input_pages, level_of_size, pages, pages_of_entry, pages_of_table}
 use Rattle.pt_model.specs.Sets.{IsAmong}
 use Rattle.pt_model.specs.Tables.{all_needed, end_of_table, least_top, levels_between, needed, position_over, spine_position}
 use Rattle.pt_model.specs.Tiling.{IsTiling}
@@ -85,6 +85,10 @@ last_reaches f end level below within past = elim (cases_lt (level + 1) f.levels
   | inl fine ↦ fine
   | inr high ↦ absurd (let wide = table_mono f (f.levels - 1) level (omega arith) in omega arith)
 ]
+
+-- there are far fewer input pages than the greatest number
+pub input_few : {f : Layout} → IsLayout f → input_pages f < 2 ^ 63
+input_few {f} good = let high = good.pages_high in let few : 2 ^ (f.input - f.granule) ≤ 2 ^ 52 = power_mono (f.input - f.granule) 52 (omega arith) in omega arith
 
 -- where a table at page 0 ends, as the code has it
 pub reach_is : {f : Layout} → IsLayout f → {x : Extent} → IsExtent f x → (root : ℕ) → {reach : ℕ} → reach ≡ min (pages_of_table f root) (2 ^ 63) → pages_of_table f root < x.end → reach ≡ pages_of_table f root
