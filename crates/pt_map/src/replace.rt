@@ -36,6 +36,7 @@ pub(crate) fn make_way<F: Format, H: Holder<F>>(
 /// Unlinks the tables that blocks of an extent take the place of, from the path's last table, of this level. Their frames
 /// are in front of the purse, and the path is in the end as it was.
 #[cycle(unlink_replaced)]
+#[inline(never)]
 fn unlink_replaced<F: Format, H: Holder<F>>(holder: &mut H, level: u32, extent: Extent)
     requires { MayMakeWay F.layout (H.view holder.old) extent level }
     ensures stays { Stays H.space H.aside H.alone holder.old holder.new }

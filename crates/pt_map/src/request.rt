@@ -175,7 +175,8 @@ fn map_block<F: Format, H: Holder<F>>(
         (H.view holder.old) (H.view holder.new) extent level result }
 {
     if log2 == F::INDEX * level {
-        map_entry::<F, H>(holder, level, extent, log2)
+        // where the size is a constant, so is the level then
+        map_entry::<F, H>(holder, log2 / F::INDEX, extent, log2)
     } else {
         map_entries::<F, H>(holder, level, extent, log2)
     }
