@@ -12,3 +12,5 @@ mod BookTables
 mod RangeNumbers
 mod CutBlocks
 mod Unmapped
+-- a range under one entry
+mod OneEntry

@@ -7,6 +7,7 @@
 #![tactic(auto)]
 
 mod empty;
+mod entry;
 mod frames;
 mod refused;
 mod request;

@@ -10,7 +10,7 @@ use Rattle.pt_sweep.proofs.request.unmap.Goals as goal
 use Rattle.pt_sweep.proofs.request.unmap.Goals.{After-cut_block}
 
 -- the blocks that the range cuts
-found : (g : Over) (c : After-cut_block g) (blocks : List Block) → IsAtRest g.F.Format.layout (g.H.Holder.view c.args.holder.now) blocks → c.cut_block.result ≡ None →
+found : (g : Over) (c : After-cut_block g) (blocks : List Block) → IsAtRest g.F.Format.layout (g.H.Holder.view c.unmap_one.new.holder) blocks → c.cut_block.result ≡ None →
     find (is_cut c.in_ok-range.range.first (c.in_ok-range.range.first + c.in_ok-range.range.count)) blocks ≡ None
 found g c blocks rest none = sym (c.cut_block.ensures.cut blocks rest) ∙ none
 

@@ -1,0 +1,118 @@
+-- A range under one entry that is empty, or the word of a block that is all of the range.
+use Rattle.std.proofs.Common.{◌≡◌, ◌⊎◌, ℕ, zero, suc, ◌+◌, ◌-◌, ◌*◌, ◌/◌, ◌%◌, ◌^◌, ◌<◌, ◌≤◌, List, [], ◌∷◌, ◌++◌, false, length, inl, inr, refl, ap, sym, subst, ◌∙◌, arith}
+use Rattle.std.specs.Prelude.{find, max, slice_index_or, AllPairs, Contains, None, Option, Some}
+use Rattle.std.proofs.lemmas.Bool.{cases_Bool, cases_lt, false_from_ne_true}
+use Rattle.std.proofs.lemmas.Nat.{pow_pos, shr_split}
+use Rattle.pt_model.specs.declared.block.Block.{Block}
+use Rattle.pt_model.specs.Layout.{Layout, end_of, pages_of_entry}
+use Rattle.pt_model.specs.Unmap.{is_cut}
+use Rattle.pt_model.proofs.Quotients.{multiple_under}
+use Rattle.pt_format.specs.Laws.{IsLayout}
+use Rattle.pt_view.specs.declared.view.View.{View}
+use Rattle.pt_view.specs.declared.view.Piece.{Piece}
+use Rattle.pt_view.specs.declared.holder.Seen.{Seen}
+use Rattle.pt_view.specs.declared.holder.Seen.TheVariants.{Empty, Leaf}
+use Rattle.pt_view.specs.Pieces.{IsOneOf, IsUnderPiece, all_pieces, first_of, level_of, pieces_of}
+use Rattle.pt_view.specs.Views.{SameBook, SameRange}
+use Rattle.pt_view.proofs.Loads.{IsLoad, loads_path}
+use Rattle.pt_view.proofs.Members.{in_blocks, one_of_left, one_of_right}
+use Rattle.pt_view.proofs.Pieces.{ends_in_block, first_whole, page_in_block}
+use Rattle.pt_walk.specs.RangeWalks.{HasBook, IsBlockOf, rested}
+use Rattle.pt_walk.specs.Walks.{IsClear, IsFound, IsOverRange, OwnsAll}
+use Rattle.pt_walk.proofs.Books.{block_found, owns_all, piece_over}
+use Rattle.pt_walk.proofs.Descent.{leaf_found, own_piece, owns_on}
+use Rattle.pt_walk.proofs.Ranges.{free_here}
+use Rattle.pt_sweep.specs.Sweeps.{MaySweepBelow}
+use Rattle.pt_sweep.specs.Unmaps.{CutsNoBlock}
+use Rattle.pt_sweep.proofs.BlockPieces.{blocks_uncut}
+use Rattle.pt_sweep.proofs.BookTables.{swept_span}
+use Rattle.pt_sweep.proofs.CutBlocks.{cut_tells, finds_none, found_none}
+use Rattle.pt_walk.proofs.Cuts.{pages_few}
+use Rattle.pt_sweep.proofs.SweptTables.{may_loads}
+
+-- two blocks of a book are one, or apart
+apart_or_same : (bs : List Block) → AllPairs (λ b c. end_of b ≤ c.first) bs → (b c : Block) → Contains bs b → Contains bs c → (b ≡ c) ⊎ ((end_of b ≤ c.first) ⊎ (end_of c ≤ b.first))
+apart_or_same [] order b c h k = absurd (let less = h.1 in omega arith)
+apart_or_same (d ∷ bs) order b c (zero, less, is) (zero, less', is') = inl (sym is ∙ is')
+apart_or_same (d ∷ bs) order b c (zero, less, is) (suc k, less', is') =
+    inr (inl (subst (λ (x : Block). end_of x ≤ c.first) is (subst (λ (x : Block). end_of d ≤ x.first) is' (order 0 (suc k) c (omega arith) less'))))
+apart_or_same (d ∷ bs) order b c (suc j, less, is) (zero, less', is') =
+    inr (inr (subst (λ (x : Block). end_of x ≤ b.first) is' (subst (λ (x : Block). end_of d ≤ x.first) is (order 0 (suc j) b (omega arith) less))))
+apart_or_same (d ∷ bs) order b c (suc j, less, is) (suc k, less', is') =
+    apart_or_same bs (λ i m x a z. order (suc i) (suc m) x (omega arith) (omega arith)) b c (j, omega arith, is) (k, omega arith, is')
+
+one_in : (f : Layout) (bs : List Block) (c : Block) (x : Piece) → Contains bs c → IsOneOf (pieces_of f c) x → IsOneOf (all_pieces f bs) x
+one_in f [] c x h m = absurd (let less = h.1 in omega arith)
+one_in f (d ∷ bs) c x (zero, less, is) m = one_of_left (pieces_of f d) (all_pieces f bs) x (subst (λ (e : Block). IsOneOf (pieces_of f e) x) (sym is) m)
+one_in f (d ∷ bs) c x (suc k, less, is) m = one_of_right (pieces_of f d) (all_pieces f bs) x (one_in f bs c x (k, omega arith, is) m)
+
+module _ {f : Layout} (good : IsLayout f) {tells alone : Type 0} {v : View} {first end level : ℕ} (r : IsOverRange f v first end level)
+    (one : end ≤ (first / pages_of_entry f level + 1) * pages_of_entry f level) (book : HasBook f v) (clear : IsClear f v first end level) {seen : Seen} {w : View} (l : IsLoad f tells alone v first level seen w) where
+  -- the pieces of the view, left or not
+  same_range : SameRange (rested v) v
+  same_range = record { frames = refl; levels = refl; first = refl; count = refl }
+
+  same_book : SameBook (rested v) v
+  same_book = record { pieces = refl; tables = refl; top = refl }
+
+  pub owns : OwnsAll f v
+  owns = owns_on f same_range same_book (owns_all f good (rested v) book.rests.0 book.levels book.rests.1 (book.lawful book.rests.0 book.rests.1))
+
+  -- where no block is cut, the range may be swept
+  pub entry_may : CutsNoBlock f (rested v) first end → MaySweepBelow f v first end v.levels level
+  entry_may none =
+      let blocks = book.rests.0 in
+      let rest = book.rests.1 in
+      let found = none blocks rest in
+      let at_rest = swept_span f good (rested v) blocks book.levels rest (book.lawful blocks rest) first end v.levels
+      (λ x m. blocks_uncut f good first end blocks (λ b h. found_none (is_cut first end) blocks found b h) x (subst (λ (xs : List Piece). IsOneOf xs x) rest.pieces m)) refl in
+      record { may = may_loads at_rest (loads_path {tells = tells} v.path refl); clear = clear }
+
+  -- the entry is empty
+  pub empty_cuts : seen ≡ Empty → CutsNoBlock f (rested v) first end
+  empty_cuts e blocks rest = finds_none (is_cut first end) blocks (λ c h. false_from_ne_true (is_cut first end c) (λ cut.
+      let t = cut_tells first end c cut in
+      let low = t.0 in let high = t.1 in
+      let some = r.some in
+      let long = pow_pos c.log2 in
+      let p = piece_over f good c (max first c.first) (omega arith) (omega arith) in
+      free_here good r one l e owns clear (max first c.first) (omega arith) (omega arith) p.0
+      (subst (λ (xs : List Piece). IsOneOf xs p.0) (sym rest.pieces) (one_in f blocks c p.0 h p.1)) p.2))
+
+  -- it is the word of a block
+  module _ {word : ℕ} (e : seen ≡ Leaf word) where
+    abbrev leaf : IsFound f v first level word
+    leaf = leaf_found good owns l e
+
+    abbrev pub leaf_block : Block
+    leaf_block = (leaf_found good owns l e).piece.block
+
+    pub leaf_is : IsBlockOf f level word first leaf_block
+    leaf_is = block_found f good v first level word owns (leaf_found good owns l e)
+
+    pub leaf_inside : end_of leaf_block ≤ 2 ^ 52
+    leaf_inside = let legal = (owns leaf.piece leaf.own).legal.in_input in let few = pages_few f good in omega arith
+
+    -- that lies in the range: then it is all of it
+    pub leaf_cuts : ((leaf_block.first < first) ⊎ (end < end_of leaf_block) → ⊥) → CutsNoBlock f (rested v) first end
+    leaf_cuts inside blocks rest = finds_none (is_cut first end) blocks (λ c h. false_from_ne_true (is_cut first end c) (λ cut.
+        let x : Piece = leaf.piece in
+        let is = own_piece (owns x leaf.own) in
+        let low = leaf.has_page.0 in let high = leaf.has_page.1 in
+        let e : ℕ = pages_of_entry f (level_of f x) in
+        let whole : first_of f x ≡ first_of f x / e * e = first_whole good is in
+        let s = shr_split (first_of f x) (f.index * level_of f x) in
+        let same : first_of f x / e ≡ first / e = multiple_under first (f.index * level_of f x) (first_of f x) (omega arith) low high in
+        let to : end ≤ (first / e + 1) * e = subst (λ k. end ≤ (first / pages_of_entry f k + 1) * pages_of_entry f k) leaf.level_is one in
+        let again : first_of f x / e * e ≡ first / e * e = ap (λ n. n * e) same in
+        let ends = ends_in_block good is in
+        let from : first ≤ x.block.first = (elim (cases_lt x.block.first first) [ inl before ↦ absurd (inside (inl before)) | inr fine ↦ fine ]) in
+        let upto : end_of x.block ≤ end = (elim (cases_lt end (end_of x.block)) [ inl past ↦ absurd (inside (inr past)) | inr fine ↦ fine ]) in
+        let all : end_of x.block ≡ end = omega arith in
+        let t = cut_tells first end c cut in
+        let t0 = t.0 in let t1 = t.1 in
+        let there = (in_blocks f blocks x (subst (λ (xs : List Piece). IsOneOf xs x) rest.pieces leaf.own)).0 in
+        elim (apart_or_same blocks (book.lawful blocks rest).in_order x.block c there h) [
+          | inl is' ↦ inside (subst (λ (b : Block). (b.first < first) ⊎ (end < end_of b)) (sym is') t.2)
+          | inr other ↦ elim other [ inl behind ↦ omega arith | inr before ↦ omega arith ]
+        ]))
