@@ -1,20 +1,26 @@
 -- A range under one entry that is empty, or the word of a block that is all of the range.
-use Rattle.std.proofs.Common.{◌≡◌, ◌⊎◌, ℕ, zero, suc, ◌+◌, ◌-◌, ◌*◌, ◌/◌, ◌%◌, ◌^◌, ◌<◌, ◌≤◌, List, [], ◌∷◌, ◌++◌, false, length, inl, inr, refl, ap, sym, subst, ◌∙◌, arith}
-use Rattle.std.specs.Prelude.{find, max, slice_index_or, AllPairs, Contains, None, Option, Some}
-use Rattle.std.proofs.lemmas.Bool.{cases_Bool, cases_lt, false_from_ne_true}
-use Rattle.std.proofs.lemmas.Nat.{pow_pos, shr_split}
+use Rattle.std.proofs.Common.{◌≡◌, ◌⊎◌, ℕ, zero, suc, ◌+◌, ◌-◌, ◌*◌, ◌/◌, ◌%◌, ◌^◌, ◌<◌, ◌≤◌, List, [], ◌∷◌, ◌++◌, true, false, length, inl, inr, refl, ap, sym, subst, ◌∙◌, arith}
+use Rattle.std.specs.Prelude.{◌&&◌, find, max, nat_le, nat_lt, slice_index_or, AllPairs, Contains, None, Option, Some}
+use Rattle.std.proofs.lemmas.Bool.{and_from, and_parts, cases_Bool, cases_lt, false_from_ne_true, false≢true, leb-true, lt-ltb}
+use Rattle.std.proofs.lemmas.Nat.{mul-le, pow_pos, shr_split}
+use Rattle.std.proofs.Math.Pow.{pow_mono}
+use Rattle.pt_model.specs.declared.position.Position.{Position}
 use Rattle.pt_model.specs.declared.block.Block.{Block}
-use Rattle.pt_model.specs.Layout.{Layout, end_of, pages_of_entry}
+use Rattle.pt_model.specs.Layout.{Layout, end_of, pages_of_entry, pages_of_table}
+use Rattle.pt_model.specs.Book.{table_lies_in}
+use Rattle.pt_model.proofs.Tops.{table_mono}
 use Rattle.pt_model.specs.Unmap.{is_cut}
-use Rattle.pt_model.proofs.Quotients.{multiple_under}
+use Rattle.pt_model.proofs.Quotients.{multiple_under, table_is_entries}
 use Rattle.pt_format.specs.Laws.{IsLayout}
 use Rattle.pt_view.specs.declared.view.View.{View}
 use Rattle.pt_view.specs.declared.view.Piece.{Piece}
 use Rattle.pt_view.specs.declared.holder.Seen.{Seen}
 use Rattle.pt_view.specs.declared.holder.Seen.TheVariants.{Empty, Leaf}
 use Rattle.pt_view.specs.Pieces.{IsOneOf, IsUnderPiece, all_pieces, first_of, level_of, pieces_of}
-use Rattle.pt_view.specs.Views.{SameBook, SameRange}
-use Rattle.pt_view.proofs.Loads.{IsLoad, loads_path}
+use Rattle.pt_view.specs.declared.view.Node.{Node}
+use Rattle.pt_view.specs.Loads.{ByLoads}
+use Rattle.pt_view.specs.Views.{IsAtRest, SameBook, SameRange}
+use Rattle.pt_view.proofs.Loads.{IsLoad, loads_on, loads_path}
 use Rattle.pt_view.proofs.Members.{in_blocks, one_of_left, one_of_right}
 use Rattle.pt_view.proofs.Pieces.{ends_in_block, first_whole, page_in_block}
 use Rattle.pt_walk.specs.RangeWalks.{HasBook, IsBlockOf, rested}
@@ -22,12 +28,14 @@ use Rattle.pt_walk.specs.Walks.{IsClear, IsFound, IsOverRange, OwnsAll}
 use Rattle.pt_walk.proofs.Books.{block_found, owns_all, piece_over}
 use Rattle.pt_walk.proofs.Descent.{leaf_found, own_piece, owns_on}
 use Rattle.pt_walk.proofs.Ranges.{free_here}
-use Rattle.pt_sweep.specs.Sweeps.{MaySweepBelow}
-use Rattle.pt_sweep.specs.Unmaps.{CutsNoBlock}
+use Rattle.pt_sweep.specs.Empties.{lies_below}
+use Rattle.pt_sweep.specs.Sweeps.{MaySweepBelow, SweepsIn, begins_in}
+use Rattle.pt_sweep.specs.Unmaps.{ClearsEntry, CutsNoBlock, UnmapsEntry}
 use Rattle.pt_sweep.proofs.BlockPieces.{blocks_uncut}
 use Rattle.pt_sweep.proofs.BookTables.{swept_span}
 use Rattle.pt_sweep.proofs.CutBlocks.{cut_tells, finds_none, found_none}
 use Rattle.pt_walk.proofs.Cuts.{pages_few}
+use Rattle.pt_sweep.proofs.Sweeps.{around_sweeps, sweeps_as}
 use Rattle.pt_sweep.proofs.SweptTables.{may_loads}
 
 -- two blocks of a book are one, or apart
@@ -116,3 +124,61 @@ module _ {f : Layout} (good : IsLayout f) {tells alone : Type 0} {v : View} {fir
           | inl is' ↦ inside (subst (λ (b : Block). (b.first < first) ⊎ (end < end_of b)) (sym is') t.2)
           | inr other ↦ elim other [ inl behind ↦ omega arith | inr before ↦ omega arith ]
         ]))
+
+-- The way went down to the table that has the entry, and came back.
+module _ {f : Layout} (good : IsLayout f) {tells alone alone' : Type 0} {v w u z : View} (first count level : ℕ) (rest : v.path ≡ []) (k : ByLoads tells v w) (still : alone → alone')
+    (one : first + count ≤ (first / pages_of_entry f level + 1) * pages_of_entry f level) (back : u.path ≡ w.path → z ≡ record u { path = [] }) where
+  -- a table that lies in the range is below that one
+  low_table : (q : Position) → table_lies_in f first (first + count) q ≡ true → q.level < level
+  low_table q lies = elim (cases_lt q.level level) [
+    | inl less ↦ less
+    | inr over ↦ absurd (
+        let h = and_parts (nat_le first q.base) _ lies in
+        let from = leb-true first q.base h.0 in
+        let to = leb-true (q.base + pages_of_table f q.level) (first + count) h.1 in
+        let wide = table_mono f level q.level over in
+        let s = shr_split first (f.index * level) in
+        let bits : 9 ≤ f.index = omega (arith, good.index_is, good.granule_low) in
+        let more : 2 ^ 9 ≤ 2 ^ f.index = pow_mono bits in
+        let many = mul-le 2 (pages_of_entry f level) (2 ^ f.index) (pages_of_entry f level) (omega arith) (omega arith) in
+        let size : pages_of_table f level ≡ 2 ^ f.index * pages_of_entry f level = (let t = table_is_entries f level in let g : pages_of_entry f level * 2 ^ f.index ≡ 2 ^ f.index * pages_of_entry f level = omega arith in t ∙ g) in
+        let some = pow_pos (f.index * level) in omega arith)
+  ]
+
+  pub entry_after : (o : Option ℕ) → ClearsEntry f tells alone' first (first + count) level w u o → UnmapsEntry f tells alone first count v z o
+  entry_after None h = let is = back h.1 in (loads_on k (loads_on h.0 (loads_path [] is)), ap (λ (y : View). y.path) is ∙ sym rest)
+  entry_after (Some pages) h = (
+    λ blocks at_rest. h.0 blocks (record {
+      path = refl;
+      prepared = k.prepared ∙ at_rest.prepared;
+      end = k.purse.end ∙ at_rest.end;
+      pieces = k.book.pieces ∙ at_rest.pieces;
+    }),
+    sweeps_as (lies_below f first (first + count) level) (table_lies_in f first (first + count)) (begins_in f first (first + count)) (begins_in f first (first + count))
+      (λ q out. false_from_ne_true (lies_below f first (first + count) level q) (λ lies. false≢true (sym out ∙ (and_parts (nat_lt q.level level) _ lies).1)))
+      (λ q m. same q) (λ x m. refl)
+      (around_sweeps (lies_below f first (first + count) level) (begins_in f first (first + count)) k still h.1
+      (back h.1.path ∙ ap (λ (xs : List Node). record u { path = xs }) (sym rest))),
+  )
+    where
+      same : (q : Position) → table_lies_in f first (first + count) q ≡ lies_below f first (first + count) level q
+      same q = elim (cases_Bool (table_lies_in f first (first + count) q)) [
+        | inl lies ↦ lies ∙ sym (and_from (nat_lt q.level level) _ (lt-ltb q.level level (low_table q lies)) lies)
+        | inr out ↦ out ∙ sym (false_from_ne_true (lies_below f first (first + count) level q) (λ lies. false≢true (sym out ∙ (and_parts (nat_lt q.level level) _ lies).1)))
+      ]
+
+-- what a look at one entry leaves, where nothing went
+pub none_went : (f : Layout) (tells alone : Type 0) (first count : ℕ) {v w : View} (o : Option ℕ) → o ≡ None → UnmapsEntry f tells alone first count v w o → ByLoads tells v w × (w.path ≡ v.path)
+none_went f tells alone first count {v} {w} o e h = subst (UnmapsEntry f tells alone first count v w) e h
+
+pub some_went : (f : Layout) (tells alone : Type 0) (first count : ℕ) {v w : View} {pages : ℕ} (o : Option ℕ) → o ≡ Some pages → UnmapsEntry f tells alone first count v w o →
+    CutsNoBlock f v first (first + count) × SweepsIn f tells alone first count v w pages
+some_went f tells alone first count {v} {w} o e h = subst (UnmapsEntry f tells alone first count v w) e h
+
+pub still_rests : {f : Layout} {tells : Type 0} {v w : View} {blocks : List Block} → ByLoads tells v w × (w.path ≡ v.path) → IsAtRest f v blocks → IsAtRest f w blocks
+still_rests k rest = record {
+  path = k.1 ∙ rest.path;
+  prepared = k.0.prepared ∙ rest.prepared;
+  end = k.0.purse.end ∙ rest.end;
+  pieces = k.0.book.pieces ∙ rest.pieces;
+}
