@@ -32,7 +32,7 @@ module _ (f : Layout) (m : Machine) (commands : List Command) where
   pub runs_on : (v w : View) (text text' : List ℕ) (c : Command) (a : Answer) (rest : List Command) →
       Runs f m commands v text (c ∷ rest) → IsReady f w → machine_in f w ≡ machine_in f v →
       answer_to (machine_in f v) (book_in v) c.what ≡ Some a → book_in w ≡ book_after (machine_in f v) (book_in v) c.what →
-      text' ≡ text ++ reply_text (record { line = c.line; answer = a }) →
+      text' ≡ text ++ reply_text f (record { line = c.line; answer = a }) →
       Runs f m commands w text' rest
   runs_on v w text text' c a rest r ready same answered after put =
       let here = r.same in
@@ -41,13 +41,13 @@ module _ (f : Layout) (m : Machine) (commands : List Command) where
       let after_it : Book = book_after m (book_in v) c.what in
       let next : replies_from m (book_in v) (c ∷ rest) ≡ record { line = c.line; answer = a } ∷ replies_from m after_it rest =
       ap (λ (o : Option Answer). reply_before c.line o (replies_from m after_it rest)) answer_is in
-      let step : text' ++ replies_text (replies_from m after_it rest) ≡ replies_text (run_of m commands) =
-      ap (λ (ts : List ℕ). ts ++ replies_text (replies_from m after_it rest)) put
-      ∙ append_assoc text (reply_text (record { line = c.line; answer = a })) (replies_text (replies_from m after_it rest))
-      ∙ sym (ap (λ (rs : List Reply). text ++ replies_text rs) next) ∙ r.replies in
+      let step : text' ++ replies_text f (replies_from m after_it rest) ≡ replies_text f (run_of m commands) =
+      ap (λ (ts : List ℕ). ts ++ replies_text f (replies_from m after_it rest)) put
+      ∙ append_assoc text (reply_text f (record { line = c.line; answer = a })) (replies_text f (replies_from m after_it rest))
+      ∙ sym (ap (λ (rs : List Reply). text ++ replies_text f rs) next) ∙ r.replies in
       record {
         ready = ready;
         same = same ∙ here;
         built = (and_parts (is_built c.what) (are_built rest) r.built).1;
-        replies = ap (λ (b : Book). text' ++ replies_text (replies_from m b rest)) book_is ∙ step;
+        replies = ap (λ (b : Book). text' ++ replies_text f (replies_from m b rest)) book_is ∙ step;
       }

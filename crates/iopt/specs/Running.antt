@@ -15,7 +15,6 @@ use Rattle.pt_model.specs.Text.{replies_text}
 use Rattle.pt_view.specs.declared.view.View.{View}
 use Rattle.pt_view.specs.declared.view.Piece.{Piece}
 use Rattle.pt_view.specs.Views.{IsAtRest, book_of}
-use Rattle.pt_map.specs.Answers.{HasNoEmptyTable}
 use Rattle.iopt.specs.Built.{are_built, machine}
 
 -- the blocks whose first words are among these pieces: all blocks of a view at rest
@@ -30,11 +29,10 @@ book_in v = book_of v (blocks_of v.pieces)
 abbrev pub machine_in : Layout → View → Machine
 machine_in f v = machine f v.levels v.frames
 
--- the holder is at rest, all levels of its format are there from the start, and no table is empty
+-- the holder is at rest, and all levels of its format are there from the start
 pub record IsReady (f : Layout) (v : View) : Type 0 where
   pub rest : IsAtRest f v (blocks_of v.pieces)
   pub levels : v.levels ≡ f.levels
-  pub full : HasNoEmptyTable f v
 
 -- What a command does to the holder: it is ready again as the same machine, and its answer and its book are those of the
 -- book machine.
@@ -61,4 +59,4 @@ pub record Runs (f : Layout) (m : Machine) (commands : List Command) (v : View) 
   pub ready : IsReady f v
   pub same : machine_in f v ≡ m
   pub built : IsTrue (are_built rest)
-  pub replies : text ++ replies_text (replies_from m (book_in v) rest) ≡ replies_text (run_of m commands)
+  pub replies : text ++ replies_text f (replies_from m (book_in v) rest) ≡ replies_text f (run_of m commands)

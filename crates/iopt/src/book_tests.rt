@@ -1,18 +1,104 @@
 //! The program against the slow book of the definitions.
 
+ghost use Rattle.std.specs.Prelude.{IfOk, IsTrue};
+ghost use Rattle.pt_book.specs.Spaces.{IsStart};
+ghost use Rattle.iopt.specs.Telling.{NamesLegalBlock, has_small_blocks};
+
 use crate::status::Status;
 use crate::text::push_reply;
 use crate::top::run;
 use crate::words::Words;
+use fmt_riscv::RiscV;
 use fmt_vtdss::VtdSs;
 use fmt_x86::X86;
 use pt_book::ListBook;
 use pt_format::Format;
-use pt_model::{Answer, LookupAnswer, MapAnswer, Name, Prot, Reply, What};
+use pt_model::{Answer, LookupAnswer, MapAnswer, Name, Prot, Reply, UnmapAnswer, What};
 use pt_script::{Script, parse};
-use pt_stream::{MemorySink, SureSource, push_hex};
+use pt_stream::{MemorySink, SureSource, push_dec, push_hex};
 use std::alloc::Global;
 use std::test::Fail;
+
+/// A format, by its name in a script, and numbers of frames to run scripts in. The input space ends at `end`, and its
+/// last page begins at `last`; so for the outputs.
+#[derive(Clone, Copy)]
+pub(crate) struct FormatCase {
+    pub name: &'static [u8],
+    pub end: u64,
+    pub last: u64,
+    pub outputs_end: u64,
+    pub last_output: u64,
+    /// One, the fewest that map a page, and more.
+    pub frames: [u32; 5],
+}
+
+/// The formats that run. Their frames are one, as many as the levels, two more than those, twice as many, and sixty.
+pub(crate) const FORMATS: [FormatCase; 8] = [
+    FormatCase {
+        name: b"vtdss3",
+        end: 0x80_0000_0000,
+        last: 0x7f_ffff_f000,
+        outputs_end: 0x10_0000_0000_0000,
+        last_output: 0xf_ffff_ffff_f000,
+        frames: [1, 3, 5, 6, 60],
+    },
+    FormatCase {
+        name: b"vtdss4",
+        end: 0x1_0000_0000_0000,
+        last: 0xffff_ffff_f000,
+        outputs_end: 0x10_0000_0000_0000,
+        last_output: 0xf_ffff_ffff_f000,
+        frames: [1, 4, 6, 8, 60],
+    },
+    FormatCase {
+        name: b"vtdss5",
+        end: 0x200_0000_0000_0000,
+        last: 0x1ff_ffff_ffff_f000,
+        outputs_end: 0x10_0000_0000_0000,
+        last_output: 0xf_ffff_ffff_f000,
+        frames: [1, 5, 7, 10, 60],
+    },
+    FormatCase {
+        name: b"x86-4",
+        end: 0x8000_0000_0000,
+        last: 0x7fff_ffff_f000,
+        outputs_end: 0x10_0000_0000_0000,
+        last_output: 0xf_ffff_ffff_f000,
+        frames: [1, 4, 6, 8, 60],
+    },
+    FormatCase {
+        name: b"x86-5",
+        end: 0x100_0000_0000_0000,
+        last: 0xff_ffff_ffff_f000,
+        outputs_end: 0x10_0000_0000_0000,
+        last_output: 0xf_ffff_ffff_f000,
+        frames: [1, 5, 7, 10, 60],
+    },
+    FormatCase {
+        name: b"sv39",
+        end: 0x40_0000_0000,
+        last: 0x3f_ffff_f000,
+        outputs_end: 0x100_0000_0000_0000,
+        last_output: 0xff_ffff_ffff_f000,
+        frames: [1, 3, 5, 6, 60],
+    },
+    FormatCase {
+        name: b"sv48",
+        end: 0x8000_0000_0000,
+        last: 0x7fff_ffff_f000,
+        outputs_end: 0x100_0000_0000_0000,
+        last_output: 0xff_ffff_ffff_f000,
+        frames: [1, 4, 6, 8, 60],
+    },
+    FormatCase {
+        name: b"sv57",
+        end: 0x100_0000_0000_0000,
+        last: 0xff_ffff_ffff_f000,
+        outputs_end: 0x100_0000_0000_0000,
+        last_output: 0xff_ffff_ffff_f000,
+        frames: [1, 5, 7, 10, 60],
+    },
+];
 
 fn looked_up<F: Format>(book: &ListBook<F>, va: u64) -> LookupAnswer {
     if book.is_outside(va) {
@@ -43,8 +129,23 @@ fn mapped<F: Format>(
     Ok(MapAnswer::Mapped)
 }
 
+/// Takes a range away in a book.
+fn unmapped<F: Format>(book: &mut ListBook<F>, va: u64, len: u64) -> Result<UnmapAnswer, Fail>
+    requires small { IsTrue (has_small_blocks F.layout) }
+    ensures { IfOk result (NamesLegalBlock F.layout) }
+{
+    if let Some(refusal) = book.unmap_refusal(va, len) {
+        return Ok(refusal);
+    }
+    let pages = u64::try_from(book.unmap(va, len)?)?;
+    Ok(UnmapAnswer::Unmapped { pages })
+}
+
 /// The text of the book's answers to a script's commands.
-fn book_replies<F: Format>(alloc: Global, script: &Script) -> Result<Vec<u8>, Fail> {
+fn book_replies<F: Format>(alloc: Global, script: &Script) -> Result<Vec<u8>, Fail>
+    requires start { IsStart F.layout script.now.levels }
+    requires small { IsTrue (has_small_blocks F.layout) }
+{
     let mut book = ListBook::<F>::new(alloc, script.levels);
     let mut text = Vec::new(alloc);
     for command in script.body.commands() {
@@ -52,11 +153,12 @@ fn book_replies<F: Format>(alloc: Global, script: &Script) -> Result<Vec<u8>, Fa
             What::Map { va, pa, len, prot } => {
                 Answer::Map(mapped(&mut book, script.frames, va, pa, len, prot)?)
             }
+            What::Unmap { va, len } => Answer::Unmap(unmapped(&mut book, va, len)?),
             What::Lookup { va } => Answer::Lookup(looked_up(&book, va)),
             _ => continue,
         };
         let line = command.line;
-        push_reply(&mut text, Reply { line, answer })?;
+        push_reply::<F>(&mut text, Reply { line, answer })?;
     }
     Ok(text)
 }
@@ -68,20 +170,45 @@ fn replies_by_book(alloc: Global, script: &Script) -> Result<Vec<u8>, Fail> {
         Name::VtdSs5 => book_replies::<VtdSs<5>>(alloc, script),
         Name::X86L4 => book_replies::<X86<4>>(alloc, script),
         Name::X86L5 => book_replies::<X86<5>>(alloc, script),
+        Name::Sv39 => book_replies::<RiscV<3>>(alloc, script),
+        Name::Sv48 => book_replies::<RiscV<4>>(alloc, script),
+        Name::Sv57 => book_replies::<RiscV<5>>(alloc, script),
         _ => Ok(Vec::new(alloc)),
     }
 }
 
+/// The most bytes of a test's replies.
+const ROOM: usize = 0x2_0000;
+
 /// Whether the program puts what the book answers to a script.
-pub(crate) fn agree(alloc: Global, text: &[u8]) -> Result<bool, Fail> {
+fn agree(alloc: Global, text: &[u8]) -> Result<bool, Fail> {
     let script = parse(alloc, text)?;
     let expected = replies_by_book(alloc, &script)?;
     let mut words = Words::new(alloc);
     words.push("run")?;
     let mut source = SureSource::new(Vec::from_slice(alloc, text)?);
-    let mut sink = MemorySink::new(alloc, 8192, 8192, Vec::new(alloc))?;
+    let mut sink = MemorySink::new(alloc, ROOM, ROOM, Vec::new(alloc))?;
     let status = run(alloc, &words, &mut source, &mut sink);
     Ok(status == Status::Done && !expected.is_empty() && sink.bytes() == expected.as_slice())
+}
+
+/// Whether the program and the book agree on these lines, in so many frames of which half are held.
+pub(crate) fn agree_in(
+    alloc: Global,
+    format: FormatCase,
+    frames: u32,
+    lines: &[u8],
+) -> Result<bool, Fail> {
+    let mut text = Vec::from_slice(alloc, b"format ")?;
+    text.extend_from_slice(format.name)?;
+    text.extend_from_slice(b"\nframes ")?;
+    push_dec(&mut text, u64::from(frames))?;
+    text.extend_from_slice(b"\nhold ")?;
+    push_dec(&mut text, u64::from(frames / 2))?;
+    text.push(b'\n')?;
+    text.extend_from_slice(lines)?;
+    text.extend_from_slice(b"close\nend\n")?;
+    agree(alloc, &text)
 }
 
 /// Input addresses: whole ones and others, in the spaces and at their ends, and past them.
@@ -131,7 +258,8 @@ fn mixed(line: u32) -> What {
     }
 }
 
-fn push_line(out: &mut Vec<u8>, what: What) -> Result<(), Fail> {
+/// Appends the line of a map, an unmap or a lookup.
+pub(crate) fn push_line(out: &mut Vec<u8>, what: What) -> Result<(), Fail> {
     match what {
         What::Map { va, pa, len, prot } => {
             out.extend_from_slice(b"map ")?;
@@ -145,6 +273,13 @@ fn push_line(out: &mut Vec<u8>, what: What) -> Result<(), Fail> {
                 Prot::ReadWrite => b" rw\n",
             })?;
         }
+        What::Unmap { va, len } => {
+            out.extend_from_slice(b"unmap ")?;
+            push_hex(out, va)?;
+            out.push(b' ')?;
+            push_hex(out, len)?;
+            out.push(b'\n')?;
+        }
         What::Lookup { va } => {
             out.extend_from_slice(b"lookup ")?;
             push_hex(out, va)?;
@@ -157,15 +292,12 @@ fn push_line(out: &mut Vec<u8>, what: What) -> Result<(), Fail> {
 
 #[test]
 fn mixed_commands_are_answered_as_by_the_book(rt: HostRuntime) -> Result<(), Fail> {
-    for format in [&b"vtdss3"[..], &b"vtdss4"[..], &b"x86-4"[..]] {
-        let mut text = Vec::from_slice(rt.alloc(), b"format ")?;
-        text.extend_from_slice(format)?;
-        text.extend_from_slice(b"\nframes 16\nhold 4\n")?;
-        for line in 4..84 {
-            push_line(&mut text, mixed(line))?;
-        }
-        text.extend_from_slice(b"close\nend\n")?;
-        assert!(rt; agree(rt.alloc(), &text)?);
+    let mut lines = Vec::new(rt.alloc());
+    for line in 4..84 {
+        push_line(&mut lines, mixed(line))?;
+    }
+    for format in FORMATS {
+        assert!(rt; agree_in(rt.alloc(), format, 16, &lines)?);
     }
     Ok(())
 }

@@ -6,6 +6,7 @@ ghost use Rattle.pt_model.specs.Run.{run_of};
 ghost use Rattle.pt_model.specs.Text.{replies_text};
 ghost use Rattle.pt_plain.specs.Owner.{none_aside};
 ghost use Rattle.iopt.specs.Built.{is_built, are_built, machine};
+ghost use Rattle.iopt.specs.Telling.{IsTellable};
 ghost use Rattle.iopt.specs.Running.{IsReady, MapsAs, FindsAs, AnswersAs};
 
 use crate::text::push_reply;
@@ -54,6 +55,7 @@ fn answer<F: Format>(plain: &mut Plain<F>, what: What) -> Answer
     requires built { IsTrue (is_built what) }
     ensures aside { plain.new.aside ≡ plain.old.aside }
     ensures answers { AnswersAs F.layout plain.old.view plain.new.view what result }
+    ensures tellable { IsTellable F.layout result }
 {
     match what {
         What::Map { va, pa, len, prot } => Answer::Map(map_range(plain, va, pa, len, prot)),
@@ -76,7 +78,7 @@ pub fn run_commands<F: Format>(
     requires few { frames ≤ frame_limit F.layout }
     requires hold { hold < frames }
     requires built { IsTrue (are_built commands.now) }
-    ensures { IfOk result (λ text. text.items ≡ replies_text (run_of (machine F.layout levels frames) commands.now)) }
+    ensures { IfOk result (λ text. text.items ≡ replies_text F.layout (run_of (machine F.layout levels frames) commands.now)) }
 {
     let mut plain = Plain::<F>::make(alloc, frames, levels, hold)?;
     let mut text = Vec::new(alloc);
@@ -85,7 +87,7 @@ pub fn run_commands<F: Format>(
             line: command.line,
             answer: answer(&mut plain, command.what),
         };
-        push_reply(&mut text, reply)?;
+        push_reply::<F>(&mut text, reply)?;
     }
     Ok(text)
 }

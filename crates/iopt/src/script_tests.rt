@@ -1,295 +1,119 @@
-//! Scripts over the five formats, each against the slow book of the definitions.
+//! Scripts over all formats and in several numbers of frames, each against the slow book of the definitions.
 
-use crate::book_tests::agree;
+use crate::book_tests::{FORMATS, FormatCase, agree_in, push_line};
+use pt_model::{Prot, What};
+use std::alloc::Global;
 use std::test::Fail;
 
-// Outputs that are a page off alignment, and ones that are aligned to 2 MiB alone.
-const OFF_ALIGNMENT: [&[u8]; 5] = [
-    b"format vtdss3\nframes 60\nhold 7\nmap 0x200000 0x201000 0x200000 rw\nlookup 0x200000\n\
-        lookup 0x300005\nlookup 0x3fffff\nmap 0x40000000 0x200000 0x200000 r\nlookup 0x40012345\n\
-        map 0x80000000 0x600000 0x600000 rw\nlookup 0x80400000\nmap 0x400000 0x3000 0x3ff000 r\n\
-        lookup 0x7ff000\nlookup 0x7fefff\nclose\nend\n",
-    b"format vtdss4\nframes 60\nhold 7\nmap 0x200000 0x201000 0x200000 rw\nlookup 0x200000\n\
-        lookup 0x300005\nlookup 0x3fffff\nmap 0x40000000 0x200000 0x200000 r\nlookup 0x40012345\n\
-        map 0x80000000 0x600000 0x600000 rw\nlookup 0x80400000\nmap 0x400000 0x3000 0x3ff000 r\n\
-        lookup 0x7ff000\nlookup 0x7fefff\nclose\nend\n",
-    b"format vtdss5\nframes 60\nhold 7\nmap 0x200000 0x201000 0x200000 rw\nlookup 0x200000\n\
-        lookup 0x300005\nlookup 0x3fffff\nmap 0x40000000 0x200000 0x200000 r\nlookup 0x40012345\n\
-        map 0x80000000 0x600000 0x600000 rw\nlookup 0x80400000\nmap 0x400000 0x3000 0x3ff000 r\n\
-        lookup 0x7ff000\nlookup 0x7fefff\nclose\nend\n",
-    b"format x86-4\nframes 60\nhold 7\nmap 0x200000 0x201000 0x200000 rw\nlookup 0x200000\n\
-        lookup 0x300005\nlookup 0x3fffff\nmap 0x40000000 0x200000 0x200000 r\nlookup 0x40012345\n\
-        map 0x80000000 0x600000 0x600000 rw\nlookup 0x80400000\nmap 0x400000 0x3000 0x3ff000 r\n\
-        lookup 0x7ff000\nlookup 0x7fefff\nclose\nend\n",
-    b"format x86-5\nframes 60\nhold 7\nmap 0x200000 0x201000 0x200000 rw\nlookup 0x200000\n\
-        lookup 0x300005\nlookup 0x3fffff\nmap 0x40000000 0x200000 0x200000 r\nlookup 0x40012345\n\
-        map 0x80000000 0x600000 0x600000 rw\nlookup 0x80400000\nmap 0x400000 0x3000 0x3ff000 r\n\
-        lookup 0x7ff000\nlookup 0x7fefff\nclose\nend\n",
-];
+const PAGE: u64 = 0x1000;
 
-// Ranges over the borders of 2 MiB and of 1 GiB.
-const BORDERS: [&[u8]; 5] = [
-    b"format vtdss3\nframes 60\nhold 0\nmap 0x1fe000 0x1fe000 0x204000 rw\nlookup 0x1ff000\n\
-        lookup 0x200000\nlookup 0x400000\nlookup 0x402000\nmap 0x3fe00000 0xbfe00000 0x400000 r\n\
-        lookup 0x3fffffff\nlookup 0x40000000\nlookup 0x40200000\n\
-        map 0xbffff000 0x1fffff000 0x40002000 rw\nlookup 0xbffff000\nlookup 0xc0000000\n\
-        lookup 0x100000000\nlookup 0x100001000\nclose\nend\n",
-    b"format vtdss4\nframes 60\nhold 0\nmap 0x1fe000 0x1fe000 0x204000 rw\nlookup 0x1ff000\n\
-        lookup 0x200000\nlookup 0x400000\nlookup 0x402000\nmap 0x3fe00000 0xbfe00000 0x400000 r\n\
-        lookup 0x3fffffff\nlookup 0x40000000\nlookup 0x40200000\n\
-        map 0xbffff000 0x1fffff000 0x40002000 rw\nlookup 0xbffff000\nlookup 0xc0000000\n\
-        lookup 0x100000000\nlookup 0x100001000\nclose\nend\n",
-    b"format vtdss5\nframes 60\nhold 0\nmap 0x1fe000 0x1fe000 0x204000 rw\nlookup 0x1ff000\n\
-        lookup 0x200000\nlookup 0x400000\nlookup 0x402000\nmap 0x3fe00000 0xbfe00000 0x400000 r\n\
-        lookup 0x3fffffff\nlookup 0x40000000\nlookup 0x40200000\n\
-        map 0xbffff000 0x1fffff000 0x40002000 rw\nlookup 0xbffff000\nlookup 0xc0000000\n\
-        lookup 0x100000000\nlookup 0x100001000\nclose\nend\n",
-    b"format x86-4\nframes 60\nhold 0\nmap 0x1fe000 0x1fe000 0x204000 rw\nlookup 0x1ff000\n\
-        lookup 0x200000\nlookup 0x400000\nlookup 0x402000\nmap 0x3fe00000 0xbfe00000 0x400000 r\n\
-        lookup 0x3fffffff\nlookup 0x40000000\nlookup 0x40200000\n\
-        map 0xbffff000 0x1fffff000 0x40002000 rw\nlookup 0xbffff000\nlookup 0xc0000000\n\
-        lookup 0x100000000\nlookup 0x100001000\nclose\nend\n",
-    b"format x86-5\nframes 60\nhold 0\nmap 0x1fe000 0x1fe000 0x204000 rw\nlookup 0x1ff000\n\
-        lookup 0x200000\nlookup 0x400000\nlookup 0x402000\nmap 0x3fe00000 0xbfe00000 0x400000 r\n\
-        lookup 0x3fffffff\nlookup 0x40000000\nlookup 0x40200000\n\
-        map 0xbffff000 0x1fffff000 0x40002000 rw\nlookup 0xbffff000\nlookup 0xc0000000\n\
-        lookup 0x100000000\nlookup 0x100001000\nclose\nend\n",
-];
-
-// The last page of the space, the first one past it, and the last output page.
-const ENDS: [&[u8]; 5] = [
-    b"format vtdss3\nframes 60\nhold 1\nmap 0x7ffffff000 0x0 0x1000 rw\n\
-        map 0x7ffffff000 0x0 0x2000 rw\nmap 0x8000000000 0x0 0x1000 rw\nlookup 0x7fffffffff\n\
-        lookup 0x8000000000\nmap 0x0 0xffffffffff000 0x1000 r\nlookup 0xfff\n\
-        map 0x2000 0xffffffffff000 0x2000 rw\nmap 0x2000 0x10000000000000 0x1000 rw\n\
-        map 0x7fffe00000 0x400000 0x1ff000 rw\nlookup 0x7fffffe000\n\
-        map 0x200000 0xfffffffe00000 0x200000 rw\nlookup 0x3fffff\n\
-        map 0xfffffffffffff000 0x0 0x1000 rw\nlookup 0xffffffffffffffff\nclose\nend\n",
-    b"format vtdss4\nframes 60\nhold 1\nmap 0xfffffffff000 0x0 0x1000 rw\n\
-        map 0xfffffffff000 0x0 0x2000 rw\nmap 0x1000000000000 0x0 0x1000 rw\nlookup 0xffffffffffff\n\
-        lookup 0x1000000000000\nmap 0x0 0xffffffffff000 0x1000 r\nlookup 0xfff\n\
-        map 0x2000 0xffffffffff000 0x2000 rw\nmap 0x2000 0x10000000000000 0x1000 rw\n\
-        map 0xffffffe00000 0x400000 0x1ff000 rw\nlookup 0xffffffffe000\n\
-        map 0x200000 0xfffffffe00000 0x200000 rw\nlookup 0x3fffff\n\
-        map 0xfffffffffffff000 0x0 0x1000 rw\nlookup 0xffffffffffffffff\nclose\nend\n",
-    b"format vtdss5\nframes 60\nhold 1\nmap 0x1fffffffffff000 0x0 0x1000 rw\n\
-        map 0x1fffffffffff000 0x0 0x2000 rw\nmap 0x200000000000000 0x0 0x1000 rw\n\
-        lookup 0x1ffffffffffffff\nlookup 0x200000000000000\nmap 0x0 0xffffffffff000 0x1000 r\n\
-        lookup 0xfff\nmap 0x2000 0xffffffffff000 0x2000 rw\nmap 0x2000 0x10000000000000 0x1000 rw\n\
-        map 0x1ffffffffe00000 0x400000 0x1ff000 rw\nlookup 0x1ffffffffffe000\n\
-        map 0x200000 0xfffffffe00000 0x200000 rw\nlookup 0x3fffff\n\
-        map 0xfffffffffffff000 0x0 0x1000 rw\nlookup 0xffffffffffffffff\nclose\nend\n",
-    b"format x86-4\nframes 60\nhold 1\nmap 0x7ffffffff000 0x0 0x1000 rw\n\
-        map 0x7ffffffff000 0x0 0x2000 rw\nmap 0x800000000000 0x0 0x1000 rw\nlookup 0x7fffffffffff\n\
-        lookup 0x800000000000\nmap 0x0 0xffffffffff000 0x1000 r\nlookup 0xfff\n\
-        map 0x2000 0xffffffffff000 0x2000 rw\nmap 0x2000 0x10000000000000 0x1000 rw\n\
-        map 0x7fffffe00000 0x400000 0x1ff000 rw\nlookup 0x7fffffffe000\n\
-        map 0x200000 0xfffffffe00000 0x200000 rw\nlookup 0x3fffff\n\
-        map 0xfffffffffffff000 0x0 0x1000 rw\nlookup 0xffffffffffffffff\nclose\nend\n",
-    b"format x86-5\nframes 60\nhold 1\nmap 0xfffffffffff000 0x0 0x1000 rw\n\
-        map 0xfffffffffff000 0x0 0x2000 rw\nmap 0x100000000000000 0x0 0x1000 rw\n\
-        lookup 0xffffffffffffff\nlookup 0x100000000000000\nmap 0x0 0xffffffffff000 0x1000 r\n\
-        lookup 0xfff\nmap 0x2000 0xffffffffff000 0x2000 rw\nmap 0x2000 0x10000000000000 0x1000 rw\n\
-        map 0xffffffffe00000 0x400000 0x1ff000 rw\nlookup 0xffffffffffe000\n\
-        map 0x200000 0xfffffffe00000 0x200000 rw\nlookup 0x3fffff\n\
-        map 0xfffffffffffff000 0x0 0x1000 rw\nlookup 0xffffffffffffffff\nclose\nend\n",
-];
-
-// A mapped page, or a block, in the middle of a range, at its front and at its end.
-const OCCUPIED: [&[u8]; 5] = [
-    b"format vtdss3\nframes 60\nhold 10\nmap 0x300000 0x500000 0x1000 rw\n\
-        map 0x200000 0x200000 0x400000 rw\nmap 0x2ff000 0x0 0x2000 rw\nmap 0x301000 0x0 0x1000 r\n\
-        map 0x200000 0x0 0x200000 rw\nmap 0x40000000 0x40000000 0x200000 rw\n\
-        map 0x3ffff000 0x0 0x2000 rw\nmap 0x401ff000 0x0 0x2000 rw\nmap 0x0 0x0 0x100000000 rw\n\
-        map 0x40001000 0x0 0x1000 rw\nlookup 0x300000\nlookup 0x301000\nlookup 0x200000\nclose\n\
-        end\n",
-    b"format vtdss4\nframes 60\nhold 10\nmap 0x300000 0x500000 0x1000 rw\n\
-        map 0x200000 0x200000 0x400000 rw\nmap 0x2ff000 0x0 0x2000 rw\nmap 0x301000 0x0 0x1000 r\n\
-        map 0x200000 0x0 0x200000 rw\nmap 0x40000000 0x40000000 0x200000 rw\n\
-        map 0x3ffff000 0x0 0x2000 rw\nmap 0x401ff000 0x0 0x2000 rw\nmap 0x0 0x0 0x100000000 rw\n\
-        map 0x40001000 0x0 0x1000 rw\nlookup 0x300000\nlookup 0x301000\nlookup 0x200000\nclose\n\
-        end\n",
-    b"format vtdss5\nframes 60\nhold 10\nmap 0x300000 0x500000 0x1000 rw\n\
-        map 0x200000 0x200000 0x400000 rw\nmap 0x2ff000 0x0 0x2000 rw\nmap 0x301000 0x0 0x1000 r\n\
-        map 0x200000 0x0 0x200000 rw\nmap 0x40000000 0x40000000 0x200000 rw\n\
-        map 0x3ffff000 0x0 0x2000 rw\nmap 0x401ff000 0x0 0x2000 rw\nmap 0x0 0x0 0x100000000 rw\n\
-        map 0x40001000 0x0 0x1000 rw\nlookup 0x300000\nlookup 0x301000\nlookup 0x200000\nclose\n\
-        end\n",
-    b"format x86-4\nframes 60\nhold 10\nmap 0x300000 0x500000 0x1000 rw\n\
-        map 0x200000 0x200000 0x400000 rw\nmap 0x2ff000 0x0 0x2000 rw\nmap 0x301000 0x0 0x1000 r\n\
-        map 0x200000 0x0 0x200000 rw\nmap 0x40000000 0x40000000 0x200000 rw\n\
-        map 0x3ffff000 0x0 0x2000 rw\nmap 0x401ff000 0x0 0x2000 rw\nmap 0x0 0x0 0x100000000 rw\n\
-        map 0x40001000 0x0 0x1000 rw\nlookup 0x300000\nlookup 0x301000\nlookup 0x200000\nclose\n\
-        end\n",
-    b"format x86-5\nframes 60\nhold 10\nmap 0x300000 0x500000 0x1000 rw\n\
-        map 0x200000 0x200000 0x400000 rw\nmap 0x2ff000 0x0 0x2000 rw\nmap 0x301000 0x0 0x1000 r\n\
-        map 0x200000 0x0 0x200000 rw\nmap 0x40000000 0x40000000 0x200000 rw\n\
-        map 0x3ffff000 0x0 0x2000 rw\nmap 0x401ff000 0x0 0x2000 rw\nmap 0x0 0x0 0x100000000 rw\n\
-        map 0x40001000 0x0 0x1000 rw\nlookup 0x300000\nlookup 0x301000\nlookup 0x200000\nclose\n\
-        end\n",
-];
-
-// One frame: blocks of the top table alone can be mapped, and pages lack frames.
-const ONE_FRAME: [&[u8]; 5] = [
-    b"format vtdss3\nframes 1\nhold 0\nmap 0x0 0x0 0x1000 rw\n\
-        map 0x40000000 0x80000000 0x40000000 rw\nmap 0x100000000 0x100000000 0x200000 rw\n\
-        map 0x0 0x0 0x0 rw\nlookup 0x40000000\nlookup 0x0\nclose\nend\n",
-    b"format vtdss4\nframes 1\nhold 0\nmap 0x0 0x0 0x1000 rw\n\
-        map 0x40000000 0x80000000 0x40000000 rw\nmap 0x100000000 0x100000000 0x200000 rw\n\
-        map 0x0 0x0 0x0 rw\nlookup 0x40000000\nlookup 0x0\nclose\nend\n",
-    b"format vtdss5\nframes 1\nhold 0\nmap 0x0 0x0 0x1000 rw\n\
-        map 0x40000000 0x80000000 0x40000000 rw\nmap 0x100000000 0x100000000 0x200000 rw\n\
-        map 0x0 0x0 0x0 rw\nlookup 0x40000000\nlookup 0x0\nclose\nend\n",
-    b"format x86-4\nframes 1\nhold 0\nmap 0x0 0x0 0x1000 rw\n\
-        map 0x40000000 0x80000000 0x40000000 rw\nmap 0x100000000 0x100000000 0x200000 rw\n\
-        map 0x0 0x0 0x0 rw\nlookup 0x40000000\nlookup 0x0\nclose\nend\n",
-    b"format x86-5\nframes 1\nhold 0\nmap 0x0 0x0 0x1000 rw\n\
-        map 0x40000000 0x80000000 0x40000000 rw\nmap 0x100000000 0x100000000 0x200000 rw\n\
-        map 0x0 0x0 0x0 rw\nlookup 0x40000000\nlookup 0x0\nclose\nend\n",
-];
-
-// One frame less than a map needs, at each level, and then as many as it needs.
-const FEW_FRAMES: [&[u8]; 5] = [
-    b"format vtdss3\nframes 5\nhold 1\nmap 0x0 0x0 0x1000 rw\nmap 0x1ff000 0x1ff000 0x2000 rw\n\
-        map 0x400000 0x0 0x1000 rw\nmap 0x200000 0x400000 0x200000 rw\nmap 0x400000 0x0 0x1000 rw\n\
+/// Lines of maps and lookups.
+const MAPS: [&[u8]; 7] = [
+    // outputs that are a page off alignment, and ones that are aligned to 2 MiB alone
+    b"map 0x200000 0x201000 0x200000 rw\nlookup 0x200000\nlookup 0x300005\nlookup 0x3fffff\n\
+        map 0x40000000 0x200000 0x200000 r\nlookup 0x40012345\n\
+        map 0x80000000 0x600000 0x600000 rw\nlookup 0x80400000\n\
+        map 0x400000 0x3000 0x3ff000 r\nlookup 0x7ff000\nlookup 0x7fefff\n",
+    // ranges over the borders of 2 MiB and of 1 GiB
+    b"map 0x1fe000 0x1fe000 0x204000 rw\nlookup 0x1ff000\nlookup 0x200000\nlookup 0x400000\n\
+        lookup 0x402000\nmap 0x3fe00000 0xbfe00000 0x400000 r\nlookup 0x3fffffff\n\
+        lookup 0x40000000\nlookup 0x40200000\nmap 0xbffff000 0x1fffff000 0x40002000 rw\n\
+        lookup 0xbffff000\nlookup 0xc0000000\nlookup 0x100000000\nlookup 0x100001000\n",
+    // a mapped page, or a block, in the middle of a range, at its front and at its end
+    b"map 0x300000 0x500000 0x1000 rw\nmap 0x200000 0x200000 0x400000 rw\n\
+        map 0x2ff000 0x0 0x2000 rw\nmap 0x301000 0x0 0x1000 r\nmap 0x200000 0x0 0x200000 rw\n\
+        map 0x40000000 0x40000000 0x200000 rw\nmap 0x3ffff000 0x0 0x2000 rw\n\
+        map 0x401ff000 0x0 0x2000 rw\nmap 0x0 0x0 0x100000000 rw\n\
+        map 0x40001000 0x0 0x1000 rw\nlookup 0x300000\nlookup 0x301000\nlookup 0x200000\n",
+    // one frame: blocks of the top table alone can be mapped, and pages lack frames
+    b"map 0x0 0x0 0x1000 rw\nmap 0x40000000 0x80000000 0x40000000 rw\n\
+        map 0x100000000 0x100000000 0x200000 rw\nmap 0x0 0x0 0x0 rw\nlookup 0x40000000\n\
+        lookup 0x0\n",
+    // one frame less than a map needs, at each level, and then as many as it needs
+    b"map 0x0 0x0 0x1000 rw\nmap 0x1ff000 0x1ff000 0x2000 rw\nmap 0x400000 0x0 0x1000 rw\n\
+        map 0x200000 0x400000 0x200000 rw\nmap 0x400000 0x0 0x1000 rw\n\
         map 0x600000 0x0 0x1000 rw\nmap 0x40000000 0x40000000 0x200000 rw\n\
         map 0x800000 0x200000 0x200000 rw\nlookup 0x1fffff\nlookup 0x200000\nlookup 0x400000\n\
-        lookup 0x800000\nclose\nend\n",
-    b"format vtdss4\nframes 6\nhold 1\nmap 0x0 0x0 0x1000 rw\nmap 0x1ff000 0x1ff000 0x2000 rw\n\
-        map 0x400000 0x0 0x1000 rw\nmap 0x200000 0x400000 0x200000 rw\nmap 0x400000 0x0 0x1000 rw\n\
-        map 0x600000 0x0 0x1000 rw\nmap 0x40000000 0x40000000 0x200000 rw\n\
-        map 0x800000 0x200000 0x200000 rw\nlookup 0x1fffff\nlookup 0x200000\nlookup 0x400000\n\
-        lookup 0x800000\nclose\nend\n",
-    b"format vtdss5\nframes 7\nhold 1\nmap 0x0 0x0 0x1000 rw\nmap 0x1ff000 0x1ff000 0x2000 rw\n\
-        map 0x400000 0x0 0x1000 rw\nmap 0x200000 0x400000 0x200000 rw\nmap 0x400000 0x0 0x1000 rw\n\
-        map 0x600000 0x0 0x1000 rw\nmap 0x40000000 0x40000000 0x200000 rw\n\
-        map 0x800000 0x200000 0x200000 rw\nlookup 0x1fffff\nlookup 0x200000\nlookup 0x400000\n\
-        lookup 0x800000\nclose\nend\n",
-    b"format x86-4\nframes 6\nhold 1\nmap 0x0 0x0 0x1000 rw\nmap 0x1ff000 0x1ff000 0x2000 rw\n\
-        map 0x400000 0x0 0x1000 rw\nmap 0x200000 0x400000 0x200000 rw\nmap 0x400000 0x0 0x1000 rw\n\
-        map 0x600000 0x0 0x1000 rw\nmap 0x40000000 0x40000000 0x200000 rw\n\
-        map 0x800000 0x200000 0x200000 rw\nlookup 0x1fffff\nlookup 0x200000\nlookup 0x400000\n\
-        lookup 0x800000\nclose\nend\n",
-    b"format x86-5\nframes 7\nhold 1\nmap 0x0 0x0 0x1000 rw\nmap 0x1ff000 0x1ff000 0x2000 rw\n\
-        map 0x400000 0x0 0x1000 rw\nmap 0x200000 0x400000 0x200000 rw\nmap 0x400000 0x0 0x1000 rw\n\
-        map 0x600000 0x0 0x1000 rw\nmap 0x40000000 0x40000000 0x200000 rw\n\
-        map 0x800000 0x200000 0x200000 rw\nlookup 0x1fffff\nlookup 0x200000\nlookup 0x400000\n\
-        lookup 0x800000\nclose\nend\n",
+        lookup 0x800000\n",
+    // ranges of which only pages, or blocks of 2 MiB, could tile more than the frames reach
+    b"map 0x0 0x1000 0x1000000 rw\nmap 0x40000000 0x200000 0x100000000 rw\n\
+        map 0x0 0x1000 0x400000 rw\nmap 0x0 0x200000 0x80000000 r\n\
+        map 0x0 0x200000 0x20000000 r\nmap 0x200000000 0x1000 0x1000000 rw\nlookup 0x0\n\
+        lookup 0x13fffffff\nlookup 0x140000000\n",
+    // frames that are held from the start, all of them and some
+    b"map 0x1234 0x0 0x1000 rw\nmap 0x0 0x10 0x1000 rw\nmap 0x1000 0x1000 0xfff rw\n\
+        map 0x1000000 0x0 0x1000 rw\nmap 0x40000000 0x0 0x2000 r\n\
+        map 0x80000000 0x0 0x1000 rw\nlookup 0x1000000\nlookup 0x40001000\nlookup 0x80000000\n",
 ];
 
-// Ranges of which only pages, or blocks of 2 MiB, could tile more than the frames reach.
-const TOO_LARGE: [&[u8]; 5] = [
-    b"format vtdss3\nframes 6\nhold 0\nmap 0x0 0x1000 0x1000000 rw\n\
-        map 0x40000000 0x200000 0x100000000 rw\nmap 0x0 0x1000 0x400000 rw\n\
-        map 0x0 0x200000 0x80000000 r\nmap 0x0 0x200000 0x20000000 r\n\
-        map 0x200000000 0x1000 0x1000000 rw\nlookup 0x0\nlookup 0x13fffffff\nlookup 0x140000000\n\
-        close\nend\n",
-    b"format vtdss4\nframes 7\nhold 0\nmap 0x0 0x1000 0x1000000 rw\n\
-        map 0x40000000 0x200000 0x100000000 rw\nmap 0x0 0x1000 0x400000 rw\n\
-        map 0x0 0x200000 0x80000000 r\nmap 0x0 0x200000 0x20000000 r\n\
-        map 0x200000000 0x1000 0x1000000 rw\nlookup 0x0\nlookup 0x13fffffff\nlookup 0x140000000\n\
-        close\nend\n",
-    b"format vtdss5\nframes 8\nhold 0\nmap 0x0 0x1000 0x1000000 rw\n\
-        map 0x40000000 0x200000 0x100000000 rw\nmap 0x0 0x1000 0x400000 rw\n\
-        map 0x0 0x200000 0x80000000 r\nmap 0x0 0x200000 0x20000000 r\n\
-        map 0x200000000 0x1000 0x1000000 rw\nlookup 0x0\nlookup 0x13fffffff\nlookup 0x140000000\n\
-        close\nend\n",
-    b"format x86-4\nframes 7\nhold 0\nmap 0x0 0x1000 0x1000000 rw\n\
-        map 0x40000000 0x200000 0x100000000 rw\nmap 0x0 0x1000 0x400000 rw\n\
-        map 0x0 0x200000 0x80000000 r\nmap 0x0 0x200000 0x20000000 r\n\
-        map 0x200000000 0x1000 0x1000000 rw\nlookup 0x0\nlookup 0x13fffffff\nlookup 0x140000000\n\
-        close\nend\n",
-    b"format x86-5\nframes 8\nhold 0\nmap 0x0 0x1000 0x1000000 rw\n\
-        map 0x40000000 0x200000 0x100000000 rw\nmap 0x0 0x1000 0x400000 rw\n\
-        map 0x0 0x200000 0x80000000 r\nmap 0x0 0x200000 0x20000000 r\n\
-        map 0x200000000 0x1000 0x1000000 rw\nlookup 0x0\nlookup 0x13fffffff\nlookup 0x140000000\n\
-        close\nend\n",
-];
+/// Whether the program and the book agree on these lines in each number of frames of a format.
+fn agree_in_frames(alloc: Global, format: FormatCase, lines: &[u8]) -> Result<bool, Fail> {
+    for frames in format.frames {
+        if !agree_in(alloc, format, frames, lines)? {
+            return Ok(false);
+        }
+    }
+    Ok(true)
+}
 
-// Frames that are held from the start, all of them and some.
-const PURSES: [&[u8]; 5] = [
-    b"format vtdss3\nframes 6\nhold 5\nmap 0x1234 0x0 0x1000 rw\nmap 0x0 0x10 0x1000 rw\n\
-        map 0x1000 0x1000 0xfff rw\nmap 0x1000000 0x0 0x1000 rw\nmap 0x40000000 0x0 0x2000 r\n\
-        map 0x80000000 0x0 0x1000 rw\nlookup 0x1000000\nlookup 0x40001000\nlookup 0x80000000\n\
-        close\nend\n",
-    b"format vtdss4\nframes 8\nhold 7\nmap 0x1234 0x0 0x1000 rw\nmap 0x0 0x10 0x1000 rw\n\
-        map 0x1000 0x1000 0xfff rw\nmap 0x1000000 0x0 0x1000 rw\nmap 0x40000000 0x0 0x2000 r\n\
-        map 0x80000000 0x0 0x1000 rw\nlookup 0x1000000\nlookup 0x40001000\nlookup 0x80000000\n\
-        close\nend\n",
-    b"format vtdss5\nframes 10\nhold 9\nmap 0x1234 0x0 0x1000 rw\nmap 0x0 0x10 0x1000 rw\n\
-        map 0x1000 0x1000 0xfff rw\nmap 0x1000000 0x0 0x1000 rw\nmap 0x40000000 0x0 0x2000 r\n\
-        map 0x80000000 0x0 0x1000 rw\nlookup 0x1000000\nlookup 0x40001000\nlookup 0x80000000\n\
-        close\nend\n",
-    b"format x86-4\nframes 8\nhold 7\nmap 0x1234 0x0 0x1000 rw\nmap 0x0 0x10 0x1000 rw\n\
-        map 0x1000 0x1000 0xfff rw\nmap 0x1000000 0x0 0x1000 rw\nmap 0x40000000 0x0 0x2000 r\n\
-        map 0x80000000 0x0 0x1000 rw\nlookup 0x1000000\nlookup 0x40001000\nlookup 0x80000000\n\
-        close\nend\n",
-    b"format x86-5\nframes 10\nhold 9\nmap 0x1234 0x0 0x1000 rw\nmap 0x0 0x10 0x1000 rw\n\
-        map 0x1000 0x1000 0xfff rw\nmap 0x1000000 0x0 0x1000 rw\nmap 0x40000000 0x0 0x2000 r\n\
-        map 0x80000000 0x0 0x1000 rw\nlookup 0x1000000\nlookup 0x40001000\nlookup 0x80000000\n\
-        close\nend\n",
-];
+/// The same, in each format.
+fn agree_everywhere(alloc: Global, lines: &[u8]) -> Result<bool, Fail> {
+    for format in FORMATS {
+        if !agree_in_frames(alloc, format, lines)? {
+            return Ok(false);
+        }
+    }
+    Ok(true)
+}
 
 #[test]
-fn outputs_off_alignment_take_pages(rt: HostRuntime) -> Result<(), Fail> {
-    for script in OFF_ALIGNMENT {
-        assert!(rt; agree(rt.alloc(), script)?);
+fn maps_are_answered_as_by_the_book(rt: HostRuntime) -> Result<(), Fail> {
+    for lines in MAPS {
+        assert!(rt; agree_everywhere(rt.alloc(), lines)?);
     }
     Ok(())
 }
 
-#[test]
-fn blocks_begin_at_their_borders(rt: HostRuntime) -> Result<(), Fail> {
-    for script in BORDERS {
-        assert!(rt; agree(rt.alloc(), script)?);
-    }
-    Ok(())
+fn map(va: u64, pa: u64, len: u64) -> What {
+    let prot = Prot::ReadWrite;
+    What::Map { va, pa, len, prot }
+}
+
+/// Maps and lookups of the last page of the space, of the first one past it, and onto the last output page.
+fn at_the_ends(format: FormatCase) -> [What; 15] {
+    [
+        map(format.last, 0, PAGE),
+        map(format.last, 0, 2 * PAGE),
+        map(format.end, 0, PAGE),
+        What::Lookup {
+            va: format.last | 0xfff,
+        },
+        What::Lookup { va: format.end },
+        map(0, format.last_output, PAGE),
+        What::Lookup { va: 0xfff },
+        map(2 * PAGE, format.last_output, 2 * PAGE),
+        map(2 * PAGE, format.outputs_end, PAGE),
+        map(format.last & !0x1f_ffff, 0x40_0000, 0x1f_f000),
+        What::Lookup {
+            va: format.last & !0x1f_ffff,
+        },
+        map(0x20_0000, format.last_output & !0x1f_ffff, 0x20_0000),
+        What::Lookup { va: 0x3f_ffff },
+        map(0xffff_ffff_ffff_f000, 0, PAGE),
+        What::Lookup {
+            va: 0xffff_ffff_ffff_ffff,
+        },
+    ]
 }
 
 #[test]
 fn the_space_has_its_ends(rt: HostRuntime) -> Result<(), Fail> {
-    for script in ENDS {
-        assert!(rt; agree(rt.alloc(), script)?);
-    }
-    Ok(())
-}
-
-#[test]
-fn the_lowest_mapped_page_is_named(rt: HostRuntime) -> Result<(), Fail> {
-    for script in OCCUPIED {
-        assert!(rt; agree(rt.alloc(), script)?);
-    }
-    Ok(())
-}
-
-#[test]
-fn the_root_alone_maps_no_page(rt: HostRuntime) -> Result<(), Fail> {
-    for script in ONE_FRAME {
-        assert!(rt; agree(rt.alloc(), script)?);
-    }
-    Ok(())
-}
-
-#[test]
-fn frames_run_out_at_each_level(rt: HostRuntime) -> Result<(), Fail> {
-    for script in FEW_FRAMES {
-        assert!(rt; agree(rt.alloc(), script)?);
-    }
-    Ok(())
-}
-
-#[test]
-fn a_map_of_all_lacks_frames(rt: HostRuntime) -> Result<(), Fail> {
-    for script in TOO_LARGE {
-        assert!(rt; agree(rt.alloc(), script)?);
-    }
-    Ok(())
-}
-
-#[test]
-fn a_purse_is_spent_before_a_draw(rt: HostRuntime) -> Result<(), Fail> {
-    for script in PURSES {
-        assert!(rt; agree(rt.alloc(), script)?);
+    for format in FORMATS {
+        let mut lines = Vec::new(rt.alloc());
+        for what in at_the_ends(format) {
+            push_line(&mut lines, what)?;
+        }
+        assert!(rt; agree_in(rt.alloc(), format, 60, &lines)?);
     }
     Ok(())
 }

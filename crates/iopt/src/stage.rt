@@ -6,6 +6,7 @@ ghost use Rattle.iopt.specs.Built.{is_built, are_built};
 ghost use Rattle.iopt.specs.Stage.{layout_of, first_unbuilt, first_ask, unbuilt_in, unbuilt_line, IsRunOn, IsRunOf, IsAnswered, IsRefusedFor, IsStopped, WhatRunsIsNotRefused};
 
 use crate::runner::run_commands;
+use fmt_riscv::RiscV;
 use fmt_vtdss::VtdSs;
 use fmt_x86::X86;
 use pt_format::Format;
@@ -81,6 +82,9 @@ fn run_any(alloc: Global, script: &Script) -> Result<Vec<u8>, ScriptError>
         Name::VtdSs5 => run_script::<VtdSs<5>>(alloc, script),
         Name::X86L4 => run_script::<X86<4>>(alloc, script),
         Name::X86L5 => run_script::<X86<5>>(alloc, script),
+        Name::Sv39 => run_script::<RiscV<3>>(alloc, script),
+        Name::Sv48 => run_script::<RiscV<4>>(alloc, script),
+        Name::Sv57 => run_script::<RiscV<5>>(alloc, script),
         _ => Err(ScriptError::Bad {
             line: 1,
             reason: Reason::Unbuilt,

@@ -169,7 +169,7 @@ const REFUSED: [(&[u8], u32, Reason); 12] = [
         Reason::Limit,
     ),
     (
-        b"format sv39\nframes 8\nhold 0\nclose\nend\n",
+        b"format vmsa4\nframes 8\nhold 0\nclose\nend\n",
         1,
         Reason::Unbuilt,
     ),

@@ -1,6 +1,8 @@
 -- A space of the slow book: its book, and the number of levels that it starts with.
 use Rattle.std.specs.Prelude.{ℕ, ◌≤◌}
-use Rattle.pt_model.specs.Layout.{Layout}
+use Rattle.pt_model.specs.declared.reply.UnmapAnswer.{UnmapAnswer}
+use Rattle.pt_model.specs.declared.reply.UnmapAnswer.TheVariants.{Cuts}
+use Rattle.pt_model.specs.Layout.{Layout, IsLegalBlock}
 use Rattle.pt_model.specs.Book.{Book}
 
 pub record Space : Type 0 where
@@ -15,3 +17,8 @@ with_book space book = record { levels = space.levels; book = book }
 pub record IsStart (f : Layout) (levels : ℕ) : Type 0 where
   pub low : f.start ≤ levels
   pub high : levels ≤ f.levels
+
+-- the block that an answer names is one of the format's
+abbrev pub CutsLegalBlock : Layout → UnmapAnswer → Type 0
+CutsLegalBlock f (Cuts block) = IsLegalBlock f block
+CutsLegalBlock f other = Unit {0}

@@ -1,6 +1,6 @@
 //! The book of a space as a list of blocks.
 
-ghost use Rattle.std.specs.Prelude.{◌≡◌, ℕ, All, AllPairs, ◌+◌, ◌-◌, ◌*◌, ◌/◌, ◌%◌, ◌^◌, ◌<◌, ◌≤◌, None, IsTrue, IfOk, OnOk, OnErr, filter, length, not, ◌&&◌, nat_lt, nat_le, option_map};
+ghost use Rattle.std.specs.Prelude.{◌≡◌, ℕ, All, AllPairs, ◌+◌, ◌-◌, ◌*◌, ◌/◌, ◌%◌, ◌^◌, ◌<◌, ◌≤◌, None, IsTrue, IfOk, IfSome, OnOk, OnErr, filter, length, not, ◌&&◌, nat_lt, nat_le, option_map};
 ghost use Rattle.pt_model.specs.Layout.{IsLegalBlock, output_pages};
 ghost use Rattle.pt_model.specs.Pages as pages;
 ghost use Rattle.pt_model.specs.Tiling.{tiling};
@@ -9,7 +9,7 @@ ghost use Rattle.pt_model.specs.Book.{new_book, map_refusal, translation};
 ghost use Rattle.pt_model.specs.Unmap as unmap;
 ghost use Rattle.pt_model.specs.Unmap.{unmap_refusal, pages_gone};
 ghost use Rattle.pt_model.specs.Run.{refused_answer, refused_unmap};
-ghost use Rattle.pt_book.specs.Spaces.{IsStart, with_book};
+ghost use Rattle.pt_book.specs.Spaces.{CutsLegalBlock, IsStart, with_book};
 
 use crate::lists::{add_blocks, blocks_left, first_cut, first_met, pages_within, tiled};
 use crate::tables::{all_needed, is_in, is_spine, least_top, tables_after, tables_left};
@@ -153,7 +153,8 @@ impl<F: Format> ListBook<F> {
     /// range has no page of the space, `Cuts` with the lowest block that lies partly in the range. The first of
     /// these that holds is the answer.
     pub fn unmap_refusal(&self, va: u64, len: u64) -> Option<UnmapAnswer>
-        ensures { result ≡ option_map refused_unmap (unmap_refusal F.layout self.now.book va len) }
+        ensures answer { result ≡ option_map refused_unmap (unmap_refusal F.layout self.now.book va len) }
+        ensures legal { IfSome result (CutsLegalBlock F.layout) }
     {
         if !is_whole::<F>(va) || !is_whole::<F>(len) || len == 0 {
             return Some(UnmapAnswer::Misaligned);

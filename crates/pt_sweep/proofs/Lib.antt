@@ -1,5 +1,8 @@
 -- Facts for other crates: frames that are drawn one after another.
 pub mod Drawn
+-- tables that are unlinked one after another, and those that lie in a range without pieces
+pub mod Empties
+pub mod EmptyTables
 -- pieces that are apart; sweeps one after another; the tables and the pieces of a range, entry by entry
 mod Apart
 mod Sweeps
@@ -14,3 +17,5 @@ mod CutBlocks
 mod Unmapped
 -- a range under one entry
 mod OneEntry
+-- and a root that is raised level by level
+mod RootRaised
