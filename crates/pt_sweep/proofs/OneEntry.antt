@@ -1,6 +1,6 @@
 -- A range under one entry that is empty, or the word of a block that is all of the range.
-use Rattle.std.proofs.Common.{◌≡◌, ◌⊎◌, ℕ, zero, suc, ◌+◌, ◌-◌, ◌*◌, ◌/◌, ◌%◌, ◌^◌, ◌<◌, ◌≤◌, List, [], ◌∷◌, ◌++◌, true, false, length, inl, inr, refl, ap, sym, subst, ◌∙◌, arith}
-use Rattle.std.specs.Prelude.{◌&&◌, find, max, nat_le, nat_lt, slice_index_or, AllPairs, Contains, None, Option, Some}
+use Rattle.std.proofs.Common.{◌≡◌, ◌⊎◌, ℕ, zero, suc, ◌+◌, ◌*◌, ◌/◌, ◌^◌, ◌<◌, ◌≤◌, List, [], ◌∷◌, true, inl, inr, refl, ap, sym, subst, ◌∙◌, arith}
+use Rattle.std.specs.Prelude.{max, nat_le, nat_lt, AllPairs, Contains, None, Option, Some}
 use Rattle.std.proofs.lemmas.Bool.{and_from, and_parts, cases_Bool, cases_lt, false_from_ne_true, false≢true, leb-true, lt-ltb}
 use Rattle.std.proofs.lemmas.Nat.{mul-le, pow_pos, shr_split}
 use Rattle.std.proofs.Math.Pow.{pow_mono}
@@ -16,13 +16,13 @@ use Rattle.pt_view.specs.declared.view.View.{View}
 use Rattle.pt_view.specs.declared.view.Piece.{Piece}
 use Rattle.pt_view.specs.declared.holder.Seen.{Seen}
 use Rattle.pt_view.specs.declared.holder.Seen.TheVariants.{Empty, Leaf}
-use Rattle.pt_view.specs.Pieces.{IsOneOf, IsUnderPiece, all_pieces, first_of, level_of, pieces_of}
+use Rattle.pt_view.specs.Pieces.{IsOneOf, all_pieces, first_of, level_of, pieces_of}
 use Rattle.pt_view.specs.declared.view.Node.{Node}
 use Rattle.pt_view.specs.Loads.{ByLoads}
 use Rattle.pt_view.specs.Views.{IsAtRest, SameBook, SameRange}
 use Rattle.pt_view.proofs.Loads.{IsLoad, loads_on, loads_path}
 use Rattle.pt_view.proofs.Members.{in_blocks, one_of_left, one_of_right}
-use Rattle.pt_view.proofs.Pieces.{ends_in_block, first_whole, page_in_block}
+use Rattle.pt_view.proofs.Pieces.{ends_in_block, first_whole}
 use Rattle.pt_walk.specs.RangeWalks.{HasBook, IsBlockOf, rested}
 use Rattle.pt_walk.specs.Walks.{IsClear, IsFound, IsOverRange, OwnsAll}
 use Rattle.pt_walk.proofs.Books.{block_found, owns_all, piece_over}
@@ -155,10 +155,10 @@ module _ {f : Layout} (good : IsLayout f) {tells alone alone' : Type 0} {v w u z
       pieces = k.book.pieces ∙ at_rest.pieces;
     }),
     sweeps_as (lies_below f first (first + count) level) (table_lies_in f first (first + count)) (begins_in f first (first + count)) (begins_in f first (first + count))
-      (λ q out. false_from_ne_true (lies_below f first (first + count) level q) (λ lies. false≢true (sym out ∙ (and_parts (nat_lt q.level level) _ lies).1)))
-      (λ q m. same q) (λ x m. refl)
-      (around_sweeps (lies_below f first (first + count) level) (begins_in f first (first + count)) k still h.1
-      (back h.1.path ∙ ap (λ (xs : List Node). record u { path = xs }) (sym rest))),
+        (λ q out. false_from_ne_true (lies_below f first (first + count) level q) (λ lies. false≢true (sym out ∙ (and_parts (nat_lt q.level level) _ lies).1)))
+        (λ q m. same q) (λ x m. refl)
+        (around_sweeps (lies_below f first (first + count) level) (begins_in f first (first + count)) k still h.1
+        (back h.1.path ∙ ap (λ (xs : List Node). record u { path = xs }) (sym rest))),
   )
     where
       same : (q : Position) → table_lies_in f first (first + count) q ≡ lies_below f first (first + count) level q

@@ -1,10 +1,10 @@
-use Rattle.std.proofs.Common.{◌≡◌, ◌⊎◌, ◌^◌, ◌<◌, ◌≤◌, refl, sym, subst, ◌∙◌}
+use Rattle.std.proofs.Common.{◌⊎◌, ◌^◌, ◌<◌, ◌≤◌, refl, sym, subst, ◌∙◌}
 use Rattle.std.proofs.lemmas.Bool.{false≢true}
 use Rattle.pt_model.specs.declared.block.Block.{Block}
 use Rattle.pt_model.specs.Layout.{end_of}
 use Rattle.pt_view.proofs.Loads.{IsLoad, back_loads, back_path, leaf_loads, load_leaf, loads_here}
 use Rattle.pt_walk.proofs.Ranges.{range_enters, range_load}
-use Rattle.pt_sweep.proofs.OneEntry.{empty_cuts, entry_may, leaf_block, leaf_cuts, leaf_inside, leaf_is}
+use Rattle.pt_sweep.proofs.OneEntry.{empty_cuts, entry_may, leaf_cuts, leaf_inside, leaf_is}
 use Rattle.pt_sweep.proofs.SweptPieces.{leaf_clears, may_clear}
 use Rattle.pt_sweep.proofs.SweptTables.{nothing_here, some_path}
 use Rattle.pt_sweep.proofs.entry.clear_entry.Given.{Over}

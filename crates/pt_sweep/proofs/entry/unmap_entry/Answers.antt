@@ -1,5 +1,4 @@
-use Rattle.std.proofs.Common.{◌≡◌, ◌+◌, ◌-◌, ◌*◌, ◌/◌, ◌≤◌, List, [], ◌∷◌, ◌++◌, length, ap, ◌∙◌, arith}
-use Rattle.pt_model.specs.Layout.{pages_of_entry}
+use Rattle.std.proofs.Common.{◌+◌, List, [], ◌∷◌, ◌++◌, ap, ◌∙◌, arith}
 use Rattle.pt_model.proofs.Quotients.{wider_entry}
 use Rattle.pt_view.specs.declared.view.Node.{Node}
 use Rattle.pt_view.proofs.Loads.{loads_on, root_loads}

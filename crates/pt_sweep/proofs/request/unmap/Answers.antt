@@ -1,9 +1,9 @@
-use Rattle.std.proofs.Common.{◌≡◌, ◌+◌, ◌/◌, ◌^◌, ℕ, List, sym, subst, refl, ap, ◌∙◌}
+use Rattle.std.proofs.Common.{◌≡◌, ◌+◌, ℕ, List, sym, ◌∙◌}
 use Rattle.std.specs.Prelude.{None, Some, find}
 use Rattle.pt_model.specs.declared.block.Block.{Block}
-use Rattle.pt_model.specs.Unmap.{CutsEntry, is_cut}
+use Rattle.pt_model.specs.Unmap.{is_cut}
 use Rattle.pt_view.specs.Loads.{ByLoads}
-use Rattle.pt_view.specs.Views.{IsAtRest, book_of}
+use Rattle.pt_view.specs.Views.{IsAtRest}
 use Rattle.pt_view.proofs.Loads.{loads_here, loads_on}
 use Rattle.pt_sweep.specs.Unmaps.{CutsNoBlock, IsUnmapped}
 use Rattle.pt_sweep.proofs.OneEntry.{none_went, some_went, still_rests}
@@ -35,10 +35,12 @@ pub returns-clause-rests : goal.returns-clause-rests
 returns-clause-rests g c =
     let blocks = c.requires.rest.0 in
     let at = goal.at.returns-clause-rests g c in
-    let rest = still_rests (looked g at.After-unmap_one c.in_default.is) c.requires.rest.1 in
-    (_, rests_after g.met.F.Format.lawful_layout blocks c.in_ok-range.range.first c.in_ok-range.range.count
-    (found g at.After-cut_block blocks rest c.in_default-cut_block.is) c.cut_block.ensures.stays.still_alone rest (c.cut_block.ensures.rest blocks rest)
-    c.cut_block.ensures.walked c.sweep_span.ensures.sweeps)
+    let rest = still_rests (looked g at.After-unmap_one c.in_default.is) c.requires.rest.1 in (
+      _,
+      rests_after g.met.F.Format.lawful_layout blocks c.in_ok-range.range.first c.in_ok-range.range.count
+          (found g at.After-cut_block blocks rest c.in_default-cut_block.is) c.cut_block.ensures.stays.still_alone rest (c.cut_block.ensures.rest blocks rest)
+          c.cut_block.ensures.walked c.sweep_span.ensures.sweeps,
+    )
 
 pub returns-clause-answered : goal.returns-clause-answered
 returns-clause-answered g c blocks rest' =
