@@ -1,6 +1,6 @@
 -- A range under one entry that is empty, or the word of a block that is all of the range.
-use Rattle.std.proofs.Common.{◌≡◌, ◌⊎◌, ℕ, zero, suc, ◌+◌, ◌*◌, ◌/◌, ◌^◌, ◌<◌, ◌≤◌, List, [], ◌∷◌, true, inl, inr, refl, ap, sym, subst, ◌∙◌, arith}
-use Rattle.std.specs.Prelude.{max, nat_le, nat_lt, AllPairs, Contains, None, Option, Some}
+use Rattle.std.proofs.Common.{min, zero, ◌-◌, ◌≡◌, ◌⊎◌, ℕ, suc, ◌+◌, ◌*◌, ◌/◌, ◌^◌, ◌<◌, ◌≤◌, List, [], ◌∷◌, true, inl, inr, refl, ap, sym, subst, ◌∙◌, arith}
+use Rattle.std.specs.Prelude.{IsBitSet, max, nat_le, nat_lt, AllPairs, Contains, None, Option, Some}
 use Rattle.std.proofs.lemmas.Bool.{and_from, and_parts, cases_Bool, cases_lt, false_from_ne_true, false≢true, leb-true, lt-ltb}
 use Rattle.std.proofs.lemmas.Nat.{mul-le, pow_pos, shr_split}
 use Rattle.std.proofs.Math.Pow.{pow_mono}
@@ -10,7 +10,9 @@ use Rattle.pt_model.specs.Layout.{Layout, end_of, pages_of_entry, pages_of_table
 use Rattle.pt_model.specs.Book.{table_lies_in}
 use Rattle.pt_model.proofs.Tops.{table_mono}
 use Rattle.pt_model.specs.Unmap.{is_cut}
-use Rattle.pt_model.proofs.Quotients.{multiple_under, table_is_entries}
+use Rattle.std.proofs.Math.Nat.{div-mul-le_self}
+use Rattle.pt_model.proofs.Quotients.{multiple_under, table_is_entries, whole}
+use Rattle.pt_format.proofs.BitFacts.{one_bit_set}
 use Rattle.pt_format.specs.Laws.{IsLayout}
 use Rattle.pt_view.specs.declared.view.View.{View}
 use Rattle.pt_view.specs.declared.view.Piece.{Piece}
@@ -37,6 +39,34 @@ use Rattle.pt_sweep.proofs.CutBlocks.{cut_tells, finds_none, found_none}
 use Rattle.pt_walk.proofs.Cuts.{pages_few}
 use Rattle.pt_sweep.proofs.Sweeps.{around_sweeps, sweeps_as}
 use Rattle.pt_sweep.proofs.SweptTables.{may_loads}
+
+-- a block of the one size of a level is all of a range under one entry exactly where the range is all of the entry
+pub one_size : {f : Layout} → IsLayout f → (level word first end bits : ℕ) (b : Block) → IsBlockOf f level word first b → bits ≡ min (f.index * level) 63 → IsBitSet (2 ^ bits) b.log2 → first < end →
+    end ≤ (first / pages_of_entry f level + 1) * pages_of_entry f level →
+    (end - first ≡ 2 ^ bits → (b.first < first) ⊎ (end < end_of b) → ⊥) × (((end - first ≡ 2 ^ bits) → ⊥) → (b.first < first) ⊎ (end < end_of b))
+one_size {f} good level word first end bits b block is set some one =
+    let may = block.may in
+    let under = block.under in
+    let e : ℕ = pages_of_entry f level in
+    let same : bits ≡ b.log2 = (one_bit_set bits b.log2).0 set in
+    let low : b.log2 / f.index * f.index ≤ b.log2 = div-mul-le_self b.log2 f.index in
+    let at : b.log2 / f.index * f.index ≡ f.index * level = ap (λ n. n * f.index) may.at_level ∙ (let g : level * f.index ≡ f.index * level = omega arith in g) in
+    let log2 : b.log2 ≡ f.index * level = omega arith in
+    let size : 2 ^ b.log2 ≡ e = ap (λ k. 2 ^ k) log2 in
+    let all : 2 ^ bits ≡ e = ap (λ k. 2 ^ k) (same ∙ log2) in
+    let zero : b.log2 - f.index * level ≡ 0 = omega arith in
+    let few : block.part < 2 ^ 0 = subst (λ k. block.part < 2 ^ k) zero may.a_part in
+    let none : block.part ≡ 0 = omega arith in
+    let from0 : block.part * e ≡ 0 = ap (λ n. n * e) none ∙ omega arith in
+    let to0 : (block.part + 1) * e ≡ e = ap (λ n. (n + 1) * e) none ∙ omega arith in
+    let from = under.from in
+    let to = under.to in
+    let quotient : b.first / 2 ^ b.log2 ≡ first / 2 ^ b.log2 = multiple_under first b.log2 b.first under.aligned (omega arith) (omega arith) in
+    let begins : b.first ≡ first / e * e = whole b.first b.log2 under.aligned ∙ ap (λ n. n * 2 ^ b.log2) quotient ∙ (λ i. first / size i * size i) in
+    let s = shr_split first (f.index * level) in (
+      λ exact out. elim out [ inl before ↦ omega arith | inr past ↦ omega arith ],
+      λ other. elim (cases_lt b.first first) [ inl before ↦ inl before | inr not ↦ inr (elim (cases_lt end (end_of b)) [ inl past ↦ past | inr fine ↦ absurd (other (omega arith)) ]) ],
+    )
 
 -- two blocks of a book are one, or apart
 apart_or_same : (bs : List Block) → AllPairs (λ b c. end_of b ≤ c.first) bs → (b c : Block) → Contains bs b → Contains bs c → (b ≡ c) ⊎ ((end_of b ≤ c.first) ⊎ (end_of c ≤ b.first))
@@ -108,7 +138,7 @@ module _ {f : Layout} (good : IsLayout f) {tells alone : Type 0} {v : View} {fir
         let is = own_piece (owns x leaf.own) in
         let low = leaf.has_page.0 in let high = leaf.has_page.1 in
         let e : ℕ = pages_of_entry f (level_of f x) in
-        let whole : first_of f x ≡ first_of f x / e * e = first_whole good is in
+        let begins : first_of f x ≡ first_of f x / e * e = first_whole good is in
         let s = shr_split (first_of f x) (f.index * level_of f x) in
         let same : first_of f x / e ≡ first / e = multiple_under first (f.index * level_of f x) (first_of f x) (omega arith) low high in
         let to : end ≤ (first / e + 1) * e = subst (λ k. end ≤ (first / pages_of_entry f k + 1) * pages_of_entry f k) leaf.level_is one in

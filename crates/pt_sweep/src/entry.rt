@@ -1,17 +1,18 @@
 //! The unmap of a range under one entry, from the table that has it, without a sweep from the root.
 
 ghost use Rattle.std.specs.Prelude.{◌≡◌, ◌⊎◌, ◌↔◌, ◌+◌, ◌*◌, ◌/◌, ◌^◌, ◌<◌, ◌≤◌, IsTrue};
+ghost use Rattle.pt_model.specs.declared.block.Block.{Block};
 ghost use Rattle.pt_model.specs.Layout as layout;
 ghost use Rattle.pt_model.specs.Layout.{input_pages, pages_of_entry};
 ghost use Rattle.pt_view.specs.Views.{IsLawfulAtRest, Stays};
-ghost use Rattle.pt_walk.specs.RangeWalks.{HasBook, HasSpan};
+ghost use Rattle.pt_walk.specs.RangeWalks.{HasBook, HasSpan, IsBlockOf};
 ghost use Rattle.pt_walk.specs.Walks.{IsClear, IsOverRange, Rests};
 ghost use Rattle.pt_sweep.specs.Unmaps.{ClearsEntry, UnmapsEntry};
 
 use pt_format::{Block, Format, Span};
 use pt_num::is_aligned;
 use pt_view::{Holder, Seen};
-use pt_walk::{block_of, climb, descend, entry_number, spine_end};
+use pt_walk::{block_of, climb, descend, entry_bits, entry_number, spine_end};
 
 /// Whether a block begins before a range or ends behind it.
 pub(crate) fn reaches_out(block: Block, first: u64, end: u64) -> bool
@@ -19,6 +20,24 @@ pub(crate) fn reaches_out(block: Block, first: u64, end: u64) -> bool
     ensures { IsTrue result ↔ ((block.first < first) ⊎ (end < layout.end_of block)) }
 {
     block.first < first || block.first + (1 << block.log2) > end
+}
+
+/// Whether the block of which this word, in a table of this level, is the word over a page has pages outside a range that
+/// begins there. Where the level has blocks of one size alone, the word isn't read.
+#[inline(always)]
+fn is_cut<F: Format>(level: u32, word: u64, first: u64, end: u64) -> bool
+    requires some { (b : Block) × IsBlockOf F.layout level word first b × (layout.end_of b ≤ 2 ^ 52) }
+    requires a_level { level < F.layout.levels }
+    requires a_page { first < end }
+    requires in_space { end ≤ input_pages F.layout }
+    requires one { end ≤ (first / pages_of_entry F.layout level + 1) * pages_of_entry F.layout level }
+    ensures { (b : Block) → IsBlockOf F.layout level word first b → (IsTrue result ↔ ((b.first < first) ⊎ (end < layout.end_of b))) }
+{
+    let pages = 1 << entry_bits::<F>(level);
+    if F::sizes(level) == pages {
+        return end - first != pages;
+    }
+    reaches_out(block_of::<F>(level, word, first), first, end)
 }
 
 /// Clears the one block of a range under one entry of the path's last table, of this level. Answers how many pages went;
@@ -41,7 +60,7 @@ fn clear_entry<F: Format, H: Holder<F>>(
     match holder.enter(number) {
         Seen::Empty => Some(0),
         Seen::Leaf(word) => {
-            if reaches_out(block_of::<F>(level, word, first), first, end) {
+            if is_cut::<F>(level, word, first, end) {
                 return None;
             }
             holder.clear(number);

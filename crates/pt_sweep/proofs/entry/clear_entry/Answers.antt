@@ -1,7 +1,5 @@
-use Rattle.std.proofs.Common.{◌⊎◌, ◌^◌, ◌<◌, ◌≤◌, refl, sym, subst, ◌∙◌}
+use Rattle.std.proofs.Common.{refl, sym, ◌∙◌}
 use Rattle.std.proofs.lemmas.Bool.{false≢true}
-use Rattle.pt_model.specs.declared.block.Block.{Block}
-use Rattle.pt_model.specs.Layout.{end_of}
 use Rattle.pt_view.proofs.Loads.{IsLoad, back_loads, back_path, leaf_loads, load_leaf, loads_here}
 use Rattle.pt_walk.proofs.Ranges.{range_enters, range_load}
 use Rattle.pt_sweep.proofs.OneEntry.{empty_cuts, entry_may, leaf_cuts, leaf_inside, leaf_is}
@@ -17,39 +15,35 @@ load g c = range_load c.requires.range c.entry_number-number.ensures.number c.en
 pub enter-requires : goal.enter-requires
 enter-requires g c = range_enters c.requires.range c.entry_number-number.result c.entry_number-number.ensures.number
 
-pub block_of-requires-clause-some : goal.block_of-requires-clause-some
-block_of-requires-clause-some g c =
-    let l = load g (goal.at.block_of-requires-clause-some g c).After-enter in
-    (_, leaf_is g.met.F.Format.lawful_layout c.requires.range c.requires.one c.requires.book c.requires.clear l c.in-Leaf.is)
+pub is_cut-requires-clause-some : goal.is_cut-requires-clause-some
+is_cut-requires-clause-some g c =
+    let good = g.met.F.Format.lawful_layout in
+    let r = c.requires in
+    let l = load g (goal.at.is_cut-requires-clause-some g c).After-enter in
+    (_, leaf_is good r.range r.one r.book r.clear l c.in-Leaf.is, leaf_inside good r.range r.one r.book r.clear l c.in-Leaf.is)
 
-pub reaches_out-requires : goal.reaches_out-requires
-reaches_out-requires g c =
-    let l = load g (goal.at.reaches_out-requires g c).After-enter in
-    subst (λ (b : Block). end_of b ≤ 2 ^ 52) (sym (c.block_of.ensures _ (leaf_is g.met.F.Format.lawful_layout c.requires.range c.requires.one c.requires.book c.requires.clear l c.in-Leaf.is)))
-    (leaf_inside g.met.F.Format.lawful_layout c.requires.range c.requires.one c.requires.book c.requires.clear l c.in-Leaf.is)
-
-pub returns-then-reaches_out-clause-clears : goal.returns-then-reaches_out-clause-clears
-returns-then-reaches_out-clause-clears g c =
-    let l = load g (goal.at.returns-then-reaches_out-clause-clears g c).After-enter in (leaf_loads l c.in-Leaf.is, (load_leaf l c.in-Leaf.is).path)
+pub returns-then-is_cut-clause-clears : goal.returns-then-is_cut-clause-clears
+returns-then-is_cut-clause-clears g c =
+    let l = load g (goal.at.returns-then-is_cut-clause-clears g c).After-enter in (leaf_loads l c.in-Leaf.is, (load_leaf l c.in-Leaf.is).path)
 
 pub clear-requires : goal.clear-requires
 clear-requires g c =
     let good = g.met.F.Format.lawful_layout in
     let r = c.requires in
     let l = load g (goal.at.clear-requires g c).After-enter in
-    let is = c.block_of.ensures _ (leaf_is good r.range r.one r.book r.clear l c.in-Leaf.is) in
+    let cut = c.is_cut.ensures _ (leaf_is good r.range r.one r.book r.clear l c.in-Leaf.is) in
     let none = leaf_cuts good r.range r.one r.book r.clear l c.in-Leaf.is
-    (λ out. false≢true (sym c.if-reaches_out.false ∙ c.reaches_out.ensures.1 (subst (λ (b : Block). (b.first < c.args.first) ⊎ (c.args.end < end_of b)) (sym is) out))) in
+    (λ out. false≢true (sym c.if-is_cut.false ∙ cut.1 out)) in
     may_clear good r.range r.one (entry_may good r.range r.one r.book r.clear l none) l c.in-Leaf.is c.entry_number-number.result c.entry_number-number.ensures.number
 
-pub returns-else-reaches_out-clause-clears : goal.returns-else-reaches_out-clause-clears
-returns-else-reaches_out-clause-clears g c =
+pub returns-else-is_cut-clause-clears : goal.returns-else-is_cut-clause-clears
+returns-else-is_cut-clause-clears g c =
     let good = g.met.F.Format.lawful_layout in
     let r = c.requires in
-    let l = load g (goal.at.returns-else-reaches_out-clause-clears g c).After-enter in
-    let is = c.block_of.ensures _ (leaf_is good r.range r.one r.book r.clear l c.in-Leaf.is) in
+    let l = load g (goal.at.returns-else-is_cut-clause-clears g c).After-enter in
+    let cut = c.is_cut.ensures _ (leaf_is good r.range r.one r.book r.clear l c.in-Leaf.is) in
     let none = leaf_cuts good r.range r.one r.book r.clear l c.in-Leaf.is
-    (λ out. false≢true (sym c.if-reaches_out.false ∙ c.reaches_out.ensures.1 (subst (λ (b : Block). (b.first < c.args.first) ⊎ (c.args.end < end_of b)) (sym is) out))) in
+    (λ out. false≢true (sym c.if-is_cut.false ∙ cut.1 out)) in
     (none, leaf_clears good r.range r.one (entry_may good r.range r.one r.book r.clear l none) l c.in-Leaf.is c.entry_number-number.ensures.number c.clear.ensures.cleared)
 
 pub returns-in-Empty-clause-clears : goal.returns-in-Empty-clause-clears
