@@ -1,6 +1,6 @@
 //! Loads: steps by a rule, each a map or an unmap, made one after another; then lookups of their ranges.
 
-ghost use Rattle.std.specs.Prelude.{◌≡◌, ◌≤◌, IfOk, false};
+ghost use Rattle.std.specs.Prelude.{◌≤◌, IfOk};
 ghost use Rattle.pt_model.specs.Words.{frame_limit};
 ghost use Rattle.pt_walk.specs.Walks.{Rests};
 
@@ -132,7 +132,6 @@ fn step_at<F: Format>(load: Load, number: u32) -> Step {
 
 /// Makes a step, and answers how many were made: none where it is refused.
 fn make_step<F: Format>(plain: &mut Plain<F>, step: Step) -> u32
-    requires fixed { F.layout.grows ≡ false }
     requires rest { Rests F.layout plain.old.view }
     ensures rest { Rests F.layout plain.new.view }
     ensures one { result ≤ 1 }
@@ -158,7 +157,6 @@ fn find_one<F: Format>(plain: &mut Plain<F>, step: Step) -> u32
 }
 
 fn make_all<F: Format>(plain: &mut Plain<F>, load: Load, count: u32) -> u32
-    requires fixed { F.layout.grows ≡ false }
     requires rest { Rests F.layout plain.old.view }
     ensures rest { Rests F.layout plain.new.view }
     ensures most { result ≤ count }
@@ -190,9 +188,9 @@ fn frames_of<F: Format>() -> u32
     u32::min(FRAMES, 1 << (27 - F::GRANULE))
 }
 
-/// Makes the steps of a work in a new space, and looks their ranges up where it is asked for.
+/// Makes the steps of a work in a new space, of the fewest levels of the format, and looks their ranges up where it is
+/// asked for.
 pub fn run_load<F: Format>(alloc: Global, work: Work) -> Result<Tally, Memory>
-    requires fixed { F.layout.grows ≡ false }
     ensures made { IfOk result (λ tally. tally.made ≤ work.count) }
     ensures found { IfOk result (λ tally. tally.found ≤ work.count) }
 {
@@ -202,7 +200,7 @@ pub fn run_load<F: Format>(alloc: Global, work: Work) -> Result<Tally, Memory>
         lookups,
     } = work;
     let frames = frames_of::<F>();
-    let mut plain = Plain::<F>::make(alloc, frames, F::LEVELS, frames - 1)?;
+    let mut plain = Plain::<F>::make(alloc, frames, F::START, frames - 1)?;
     let made = make_all(&mut plain, load, count);
     let found = if lookups {
         find_all(&mut plain, load, count)

@@ -3,13 +3,14 @@
 //!
 //! Words: a format, a load and a count of steps, and `lookup` where the range of each step is looked up after all
 //! steps. It prints how many steps were made and not refused, and how many ranges were found. Two runs of
-//! different counts differ by the cost of the calls alone. It stands on the engine and on the formats that don't grow,
-//! and promises that each call's condition holds.
+//! different counts differ by the cost of the calls alone. It stands on the engine and on the formats, and promises that
+//! each call's condition holds.
 #![tactic(auto)]
 
 mod load;
 
 use crate::load::{Load, Tally, Work, run_load};
+use fmt_amdv1::AmdV1;
 use fmt_riscv::RiscV;
 use fmt_vmsa::Vmsa;
 use fmt_vtdss::VtdSs;
@@ -43,6 +44,7 @@ fn work_of(load: &str, count: &str, lookups: bool) -> Option<Work> {
 /// Runs a work on a format. None where the format has no such name, or no memory was found.
 fn run_work(alloc: Global, format: &str, work: Work) -> Option<Tally> {
     match format {
+        "amdv1" => run_load::<AmdV1>(alloc, work).ok(),
         "vtdss3" => run_load::<VtdSs<3>>(alloc, work).ok(),
         "vtdss4" => run_load::<VtdSs<4>>(alloc, work).ok(),
         "vtdss5" => run_load::<VtdSs<5>>(alloc, work).ok(),
