@@ -1,3 +1,4 @@
 pub mod EntryFacts
+pub mod BlockFacts
 pub mod NineBitWalks
 pub mod CommonEntries

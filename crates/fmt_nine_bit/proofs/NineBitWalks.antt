@@ -17,7 +17,7 @@ use Rattle.pt_manual.specs.declared.step.Step.TheVariants.{NotPresent, Page, Nex
 use Rattle.pt_manual.specs.Granting.{allowed, granted}
 use Rattle.pt_manual.specs.NineBitWalk.{Manual, names_frame, walk_by, walk_from, followed, page_as}
 use Rattle.fmt_nine_bit.specs.OverPages.{reached, found, found_page, step_by}
-use Rattle.fmt_nine_bit.specs.ManualLayout.{IsReadBy, Words, layout_by}
+use Rattle.fmt_nine_bit.specs.ManualLayout.{IsReadBy, Trees, Words, layout_by, layout_of}
 use Rattle.fmt_nine_bit.specs.ManualEntries.{ReadsWritten, entries_by}
 
 -- what a leaf says is what is granted
@@ -29,7 +29,7 @@ picked : (b : Bool) (x here : ℕ) → (if b then Some x else None) ≡ Some her
 picked true x here e = (refl, (let w : x ≡ here = cc in w))
 picked false x here e = absurd (let w : ⊥ = cc in w)
 
-unpicked : (b : Bool) (x : ℕ) → (if b then Some x else None) ≡ None → b ≡ false
+pub unpicked : (b : Bool) (x : ℕ) → (if b then Some x else None) ≡ None → b ≡ false
 unpicked true x e = absurd (let w : ⊥ = cc in w)
 unpicked false x e = refl
 
@@ -74,16 +74,9 @@ named frame frames low =
     let high : nat_le (2 ^ 32) (2 ^ 32 + frame * 2 ^ 12) ≡ true = le-leb _ _ (omega arith) in
     rw (high, whole, is) (lt-ltb _ _ low)
 
-module _ (w : Words) (m : Manual) (levels input bad_root : ℕ) (few : input ≤ 12 + 9 * levels)
-    (reads : IsReadBy m (layout_by w m levels input bad_root)) where
+module _ {w : Words} {m : Manual} {t : Trees} (reads : IsReadBy m (layout_of w m t)) where
   abbrev format : Layout
-  format = layout_by w m levels input bad_root
-
-  rooted : (words : List ℕ) → IsRooted format words → (nat_lt (root_frame words) (frames_in format words) && (root_level words + 1 == levels)) ≡ true
-  rooted words r =
-      let a = r.a_frame in let b = r.high in let c = r.low in
-      let is : root_level words + 1 ≡ levels = omega arith in
-      and_from (nat_lt (root_frame words) (frames_in format words)) (root_level words + 1 == levels) (lt-ltb _ _ a) (eq-eqb _ _ is)
+  format = layout_of w m t
 
   -- what both make of one word, where they agree from the next frame on
   on_word : (words : List ℕ) (address here level e : ℕ) (next : ℕ → Reached) → here ≡ address / 2 ^ 12 →
@@ -116,7 +109,7 @@ module _ (w : Words) (m : Manual) (levels input bad_root : ℕ) (few : input ≤
       ∙ rw names rest ∙ ap (follow format address next) (sym stepped)
 
   -- the walk from a table is the walk by steps
-  walks_from : (words : List ℕ) (address here : ℕ) → here ≡ address / 2 ^ 12 → (tables frame : ℕ) → OnWay format words here tables frame →
+  pub walks_from : (words : List ℕ) (address here : ℕ) → here ≡ address / 2 ^ 12 → (tables frame : ℕ) → OnWay format words here tables frame →
       reached (walk_from m words address tables frame true true) ≡ by_steps format words address here tables frame
   walks_from words address here is zero frame way = refl
   walks_from words address here is (suc level) frame way =
@@ -126,20 +119,33 @@ module _ (w : Words) (m : Manual) (levels input bad_root : ℕ) (few : input ≤
       ∙ on_word words address here level (entry_for format words frame level here) (by_steps format words address here level) is way.0
       (onward_all format (walks_from words address here is level) (step_by m level (entry_for format words frame level here) here) way.1)
 
-  near : (address here : ℕ) → page_at format address ≡ Some here → (address < 2 ^ input) × (here ≡ address / 2 ^ 12)
+  -- an address that has a page is one of the input's
+  pub near : (address here : ℕ) → page_at format address ≡ Some here → (address < 2 ^ t.input) × (here ≡ address / 2 ^ 12)
   near address here e =
-      let p = picked (nat_lt address (2 ^ input)) (address % 2 ^ input / 2 ^ 12) here e in
-      let low : address < 2 ^ input = ltb-true _ _ p.0 in
+      let p = picked (nat_lt address (2 ^ t.input)) (address % 2 ^ t.input / 2 ^ 12) here e in
+      let low : address < 2 ^ t.input = ltb-true _ _ p.0 in
       (low, sym p.1 ∙ ap (λ n. n / 2 ^ 12) (mod-eq_of_lt low))
 
-  pub walk_by_steps : IsWalk format
+-- tables of a fixed number of levels
+module _ (w : Words) (m : Manual) (levels input bad_root : ℕ) (few : input ≤ 12 + 9 * levels)
+    (reads : IsReadBy m (layout_by w m levels input bad_root)) where
+  abbrev fixed : Layout
+  fixed = layout_by w m levels input bad_root
+
+  rooted : (words : List ℕ) → IsRooted fixed words → (nat_lt (root_frame words) (frames_in fixed words) && (root_level words + 1 == levels)) ≡ true
+  rooted words r =
+      let a = r.a_frame in let b = r.high in let c = r.low in
+      let is : root_level words + 1 ≡ levels = omega arith in
+      and_from (nat_lt (root_frame words) (frames_in fixed words)) (root_level words + 1 == levels) (lt-ltb _ _ a) (eq-eqb _ _ is)
+
+  pub walk_by_steps : IsWalk fixed
   walk_by_steps = record {
     no_page = λ words address r small e.
         let far : nat_lt address (2 ^ input) ≡ false = unpicked _ _ e in
         let past : nat_le (2 ^ input) address ≡ true = le-leb _ _ (let f = ltb-false _ _ far in omega arith) in
         rw (rooted words r, past) refl;
     beyond = λ words address here r small e out. absurd
-        (let n = near address here e in
+        (let n = near reads address here e in
         let is : root_level words + 1 ≡ levels = let a = r.high in let b = r.low in omega arith in
         let wide : 2 ^ (12 + 9 * levels) ≡ 2 ^ 12 * 2 ^ (9 * levels) = pow-add 2 12 (9 * levels) in
         let most : 2 ^ input ≤ 2 ^ (12 + 9 * levels) = pow_mono few in
@@ -147,13 +153,13 @@ module _ (w : Words) (m : Manual) (levels input bad_root : ℕ) (few : input ≤
         let close = n.0 in let at = n.1 in omega arith);
     walks = λ words address here under way.
         let r = under.rooted in
-        let n = near address here under.at_page in
+        let n = near reads address here under.at_page in
         let past : nat_le (2 ^ input) address ≡ false = lt-leb _ _ n.0 in
         let is : root_level words + 1 ≡ levels = let a = r.high in let b = r.low in omega arith in
         let begins : reached (walk_by m words levels input bad_root address) ≡ reached (walk_from m words address levels (root_frame words) true true) =
         rw (rooted words r, past) refl in
         begins ∙ ap (λ k. reached (walk_from m words address k (root_frame words) true true)) (sym is)
-        ∙ walks_from words address here n.1 (root_level words + 1) (root_frame words) way;
+        ∙ walks_from reads words address here n.1 (root_level words + 1) (root_frame words) way;
   }
 
 -- Tables whose entries have the address in one field.

@@ -1,22 +1,21 @@
 -- What the tables of cases share: words that differ in one bit, and spaces of one frame.
 use Rattle.std.proofs.Common.{ℕ, zero, suc, ◌+◌, ◌-◌, ◌^◌, List, [], ◌∷◌}
 use Rattle.std.specs.Prelude.{map}
-use Rattle.pt_manual.specs.declared.step.Step.{Step}
 
 -- the numbers from `first` on
 abbrev pub up : (first count : ℕ) → List ℕ
 up first zero = []
 up first (suc n) = first ∷ up (suc first) n
 
--- the step at a word with each of these bits set, or cleared, in turn
-abbrev pub with_each : (ℕ → Step) → (word : ℕ) → List ℕ → List Step
+-- what is read at a word with each of these bits set, or cleared, in turn
+abbrev pub with_each : {A : Type 0} → (ℕ → A) → (word : ℕ) → List ℕ → List A
 with_each step word bits = map (λ k. step (word + 2 ^ k)) bits
 
-abbrev pub without_each : (ℕ → Step) → (word : ℕ) → List ℕ → List Step
+abbrev pub without_each : {A : Type 0} → (ℕ → A) → (word : ℕ) → List ℕ → List A
 without_each step word bits = map (λ k. step (word - 2 ^ k)) bits
 
 -- one answer for each bit
-abbrev pub each : (ℕ → Step) → List ℕ → List Step
+abbrev pub each : {A : Type 0} → (ℕ → A) → List ℕ → List A
 each answer bits = map answer bits
 
 abbrev pub zeros : ℕ → List ℕ

@@ -1,5 +1,9 @@
 pub mod Cases
 pub mod WalkFacts
+pub mod AmdFacts
 pub mod VtdCases
 pub mod X86Cases
 pub mod RiscvCases
+pub mod AmdCases
+pub mod VmsaFacts
+pub mod VmsaCases

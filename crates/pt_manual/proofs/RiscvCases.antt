@@ -1,5 +1,5 @@
 -- The step and the walk of RISC-V tables at numbers worked out by hand, on both sides of each border.
-use Rattle.std.proofs.Common.{◌≡◌, ◌∷◌, ◌++◌, [], refl, ℕ, ◌+◌, ◌*◌, ◌^◌, List, true, false}
+use Rattle.std.proofs.Common.{◌≡◌, ◌∷◌, ◌++◌, [], refl, ℕ, ◌*◌, ◌^◌, List, true, false}
 use Rattle.pt_model.specs.declared.block.Prot.TheVariants.{Read, ReadWrite}
 use Rattle.pt_manual.specs.declared.step.Step.TheVariants as S
 use Rattle.pt_manual.specs.declared.walked.Walked.TheVariants.{None, Alien, Page}

@@ -4,3 +4,5 @@ pub mod NineBitWalk
 pub mod VtdWalk
 pub mod X86Walk
 pub mod RiscvWalk
+pub mod AmdWalk
+pub mod VmsaWalk

@@ -28,12 +28,12 @@ pub trait Entries {
 
     /// The manual's number of a table of `level`, 0 being the lowest.
     fn number_of(level: u32) -> u32
-        requires { level < 5 }
+        requires { level < 6 }
         ensures { result ≡ manual.number level };
 
     /// What a word says in a table of `level`, 0 being the lowest.
     fn read_entry(level: u32, word: u64) -> Step
-        requires { level < 5 }
+        requires { level < 6 }
         ensures step { result ≡ manual.step (manual.number level) word }
         ensures in_output { IsInOutput result };
 }

@@ -35,7 +35,7 @@ ZeroTold f v p number w _ = Unit {0}
 
 zero_told : (f : Layout) (tells alone : Type 0) (v : View) (p : Position) (number : ℕ) (seen : Seen) (w : View) → Looked f tells alone v p number seen w → tells → ZeroTold f v p number w seen
 zero_told f tells alone v p number _ _ (looked_zero w path known vacant told) t = (told t).1
-zero_told f tells alone v p number _ _ (looked_leaf w word piece path known told member here once is) t = tt
+zero_told f tells alone v p number _ _ (looked_leaf w word piece path known told member here once is under) t = tt
 zero_told f tells alone v p number _ _ (looked_table w frame path known told high none owned) t = tt
 
 module _ {f : Layout} (good : IsLayout f) {v : View} {x : Extent} {level : ℕ} (at : IsExtentAt f v x level) (entry : IsEntryExtent f x level) where

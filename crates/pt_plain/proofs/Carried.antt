@@ -9,7 +9,7 @@ use Rattle.pt_view.specs.declared.holder.Seen.TheVariants.{Empty, Leaf, Entered}
 use Rattle.pt_view.specs.declared.holder.Won.{Won}
 use Rattle.pt_view.specs.declared.holder.Won.TheVariants.{Yes, Met}
 use Rattle.pt_view.proofs.Stays.{book_on, purse_on, range_on}
-use Rattle.pt_view.specs.Calls.{IsCleared, IsInstalled, IsPlaced, IsTaken, IsUnlinked, IsUnplaced, IsWritten, Looked, Prepares, Rooted, Takes, Went, zero, leaf, table}
+use Rattle.pt_view.specs.Calls.{Grows, IsCleared, IsGrown, IsInstalled, IsPlaced, IsTaken, IsUnlinked, IsUnplaced, IsWritten, Looked, Prepares, Rooted, Takes, Went, zero, leaf, table}
 use Rattle.pt_rule.specs.Meets.{Always, IsWhole}
 use Rattle.pt_plain.proofs.ReadBack.{Agrees}
 
@@ -23,6 +23,24 @@ takes_on false frame v u w a t = (a.same.purse.purse ∙ t.0, λ no. absurd no)
 prepares_on : (won : Won) (v u w : View) → Agrees u w → Prepares won v u → Prepares won v w
 prepares_on Yes v u w a e = a.same.prepared ∙ e
 prepares_on Met v u w a e = a.same.prepared ∙ e
+
+grows_on : (f : Layout) (won : Won) (level : ℕ) (v u w : View) → Agrees u w → Grows f won level v u → Grows f won level v w
+grows_on f Yes level v u w a g = record {
+  prepared = a.same.prepared ∙ g.prepared;
+  top = a.same.book.top ∙ g.top;
+  path = (g.path.0, a.same.path ∙ g.path.1);
+  known = λ p. through (g.known p) (a.known p);
+  legal = g.legal;
+}
+grows_on f Met level v u w a g = record {
+  prepared = a.same.prepared ∙ g.prepared;
+  top = a.same.book.top ∙ g.top;
+  path = a.same.path ∙ g.path;
+  found = g.found;
+  higher = g.higher;
+  legal = g.legal;
+  known = λ p. through (g.known p) (a.known p);
+}
 
 module _ {v u w : View} (a : Agrees u w) where
   pub placed_on : {p : Position} → IsPlaced Always v p u → IsPlaced ⊥ v p w
@@ -83,8 +101,8 @@ module _ {f : Layout} {v u w : View} (a : Agrees u w) where
 
   looked_on : {p : Position} {number : ℕ} (seen : Seen) → IsWhole f v → Looked f Always (IsWhole f v) v p number seen u → Looked f ⊥ (Unit {0}) v p number seen w
   looked_on Empty whole (zero x path known vacant told) = zero w (a.same.path ∙ path) (λ p. through (known p) (a.known p)) vacant (λ no. absurd no)
-  looked_on (Leaf word) whole (leaf x word' piece path known told member at once is) =
-      leaf w word piece (a.same.path ∙ path) (λ p. through (known p) (a.known p)) (λ no. absurd no) member at once is
+  looked_on (Leaf word) whole (leaf x word' piece path known told member at once is under) =
+      leaf w word piece (a.same.path ∙ path) (λ p. through (known p) (a.known p)) (λ no. absurd no) member at once is under
   looked_on Entered whole (table x frame path known told high none owned) =
       table w frame (a.same.path ∙ path) (λ p. through (known p) (a.known p)) (λ no. absurd no) high none (λ _. owned whole)
 
@@ -155,4 +173,16 @@ module _ {f : Layout} {v u w : View} (a : Agrees u w) where
     tables = λ p entry. a.same.book.tables ∙ r.tables p entry;
     known = λ p entry q. through (r.known p entry q) (a.known q);
     told = λ no. absurd no;
+  }
+
+  pub grown_on : {won : Won} → IsWhole f v → IsGrown f Always (IsWhole f v) v won u → IsGrown f ⊥ (Unit {0}) v won w
+  grown_on {won = won} whole r = record {
+    range = range_on r.range a.same.range;
+    pieces = a.same.book.pieces ∙ r.pieces;
+    tables = a.same.book.tables ∙ r.tables;
+    purse = purse_on r.purse a.same.purse;
+    busy = λ x. through (r.busy x) (a.busy x);
+    grows = λ level root. grows_on f won level v u w a (r.grows level root);
+    told = λ no. absurd no;
+    wins = λ _. r.wins whole;
   }

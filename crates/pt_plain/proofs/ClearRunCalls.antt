@@ -158,7 +158,7 @@ module _ {f : Layout} (laws : Laws f) {o : Fields} (own : IsOwner f o) {first co
     one : Goes (fields_to (suc i))
     one = elim tells [
       | tells_zero none vacant ↦ stays none vacant.no_piece
-      | tells_own x member legal here once is ↦ goes (x, record { position = p; entry = at_entry; member = member; here = here })
+      | tells_own x member legal here once is under ↦ goes (x, record { position = p; entry = at_entry; member = member; here = here })
       | tells_pointer g within level is known none ↦ absurd (let high = level.above in let low = asked.low in omega arith)
     ]
 
@@ -190,7 +190,7 @@ module _ {f : Layout} (laws : Laws f) {o : Fields} (own : IsOwner f o) {first co
       by_word : EntryTells f o.frames v p (first + i) (entry_of f o.frames o.words frame (first + i)) →
           pieces_at f p (first + i) v.pieces ≡ one_if (not (entry_of f o.frames o.words frame (first + i) == 0))
       by_word (tells_zero none vacant) = vacant.no_piece ∙ sym (ap (λ (b : Bool). one_if (not b)) (eq-eqb _ 0 none))
-      by_word (tells_own x member legal here once is) =
+      by_word (tells_own x member legal here once is under) =
           once ∙ sym (ap (λ (b : Bool). one_if (not b)) (ne_eqb _ 0 (λ z. word_some f laws.layout v x legal laws.differ (sym is ∙ z))))
       by_word (tells_pointer g within level is known none) = absurd (let high = level.above in let low = asked.low in omega arith)
 

@@ -118,7 +118,7 @@ module _ {f : Layout} (laws : Laws f) {o : Fields} (own : IsOwner f o) (number :
 
     path_of : (seen : Seen) (w : View) → (seen ≢ Entered) → Looked f Always (IsWhole f v) v place number seen w → (w.path ≡ v.path) × SamePositions v.known w.known
     path_of Empty w not (zero x path known vacant history) = (path, known)
-    path_of (Leaf word) w not (leaf x word' piece path known history member at once is) = (path, known)
+    path_of (Leaf word) w not (leaf x word' piece path known history member at once is under) = (path, known)
     path_of Entered w not l = absurd (not refl)
 
     pub finds_zero : found ≡ 0 → Does f o o (λ v w. Went f ⊥ (Unit {0}) number v Empty w)

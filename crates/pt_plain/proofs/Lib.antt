@@ -15,6 +15,7 @@ mod PathCalls
 mod TagCalls
 mod EntryCalls
 mod UnlinkCalls
+mod GrowCalls
 mod RunCalls
 mod ClearRunCalls
 mod NewWords

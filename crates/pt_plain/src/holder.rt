@@ -3,7 +3,7 @@
 use crate::plain::Plain;
 use crate::words::{
     entry, frame_address, frame_named, held_word, next_in, placed_word, root_level, set_entry,
-    set_run, set_tag, tag_of, zero_run,
+    set_root, set_run, set_tag, tag_of, zero_run,
 };
 use pt_format::Format;
 use pt_num::Span;
@@ -87,6 +87,21 @@ impl<F: Format> Holder<F> for Plain<F> {
         self.prepared = None;
         self.path[level as usize - 1] = frame;
         self.level = level - 1;
+        Won::Yes
+    }
+
+    fn grow(&mut self) -> Won {
+        let level = self.level;
+        let old = self.path[level as usize];
+        let Some(frame) = self.prepared else {
+            unreachable!()
+        };
+        let bridge = F::table_word(level + 1, frame_address::<F>(old));
+        set_entry::<F>(&mut self.words, self.frames, frame, 0, bridge);
+        set_root(&mut self.words, frame, level + 1);
+        self.prepared = None;
+        self.path[level as usize + 1] = frame;
+        self.level = level + 1;
         Won::Yes
     }
 

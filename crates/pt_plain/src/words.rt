@@ -59,6 +59,14 @@ pub(crate) fn root_level<F: Format>(root: u64) -> u32
     }
 }
 
+/// Makes a frame's table the root's, at a level.
+pub(crate) fn set_root(words: &mut [u64], frame: u32, level: u32)
+    requires some { 0 < length words.old }
+    ensures { words.new ≡ slice_set words.old 0 (words_are.root_word frame level) }
+{
+    words[0] = u64::from(frame) * 8 + u64::from(level);
+}
+
 /// The tag of a frame.
 pub(crate) fn tag_of(words: &[u64], frame: u32) -> u64
     requires { 1 + frame < length words.now }

@@ -41,7 +41,7 @@ module _ (f : Layout) (good : IsLayout f) (d : WordsDiffer f) (a : StepsAgree f)
     some : found ≢ 0 → IsWritten f spot.level found
     some nonzero = elim (told spot here) [
       | tells_zero none vacant ↦ absurd (nonzero none)
-      | own x member legal at_it alone_there is ↦
+      | own x member legal at_it alone_there is under ↦
           let same : spot.level ≡ level_of f x = level_of_piece f spot number x at_it in
           a_leaf x.block.log2 x.block.prot (record {
             out = x.block.out;

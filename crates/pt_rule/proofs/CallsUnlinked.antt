@@ -77,7 +77,7 @@ module _ (f : Layout) (n : ℕ) (good : IsLayout f) (d : WordsDiffer f) (a : Ste
       | tells_zero none vacant ↦ absurd (⊎_elim
           (λ (known : IsAmong v.known child). false≢true (sym (vacant.none_known child known) ∙ child_under))
           (λ (listed : IsAmong v.tables child). false≢true (sym (vacant.no_table child listed) ∙ child_under)) may.linked)
-      | own x member legal at_it alone_there is ↦
+      | own x member legal at_it alone_there is under ↦
           let first : entry_first f place number ≡ first_of f x = entry_of_piece f good v x legal place number at_it in
           let some_page = entry_some f place.level in
           let begins : begins_under f place number x ≡ true =

@@ -66,7 +66,7 @@ module _ (f : Layout) (n : ℕ) (good : IsLayout f) (d : WordsDiffer f) (a : Ste
     busy = same_frames v.busy;
     looked = λ p entry. elim (told p entry) [
       | tells_zero none vacant ↦ looked_zero w refl (same_positions v.known) vacant (λ _. (refl, ap (λ (q : Position). v.absent ++ absence_at f q number) (one_place p entry), refl))
-      | own x member legal at_it alone_there is ↦ absurd (word_some f good v x legal d (sym is ∙ z))
+      | own x member legal at_it alone_there is under ↦ absurd (word_some f good v x legal d (sym is ∙ z))
       | pointer frame within level is owned none ↦ absurd (d.pointer_some p.level (frame_address f frame) level (address_is frame within) (sym is ∙ z))
     ];
   })
@@ -78,7 +78,7 @@ module _ (f : Layout) (n : ℕ) (good : IsLayout f) (d : WordsDiffer f) (a : Ste
   pub went_leaf : (log2 : ℕ) (prot : Prot) → IsLeaf f place.level found log2 prot → (met f number found v ≡ v) × Went f tells alone number v (Leaf found) (met f number found v)
   went_leaf log2 prot read = elim (told place here) [
     | tells_zero none vacant ↦ absurd (d.leaf_some place.level log2 read.out read.part prot read.may (sym read.word_is ∙ none))
-    | own x member legal at_it alone_there is ↦
+    | own x member legal at_it alone_there is under ↦
         let nonzero : found ≢ 0 = (λ z. word_some f good v x legal d (sym is ∙ z)) in
         let stays : met f number found v ≡ v =
         after_some f v node number found _ may.entry.is_lowest nonzero (ap (λ (k : ℕ). f.step place.level k (entry_first f place number)) is ∙ step_of_piece f good a v x legal place number at_it) in (
@@ -90,7 +90,7 @@ module _ (f : Layout) (n : ℕ) (good : IsLayout f) (d : WordsDiffer f) (a : Ste
             prepared = refl;
             busy = same_frames v.busy;
             looked = λ p entry. subst (λ (q : Position). Looked f tells alone v q number (Leaf found) v) (one_place p entry)
-                (looked_leaf v found x refl (same_positions v.known) (λ _. same_history v) member at_it alone_there is);
+                (looked_leaf v found x refl (same_positions v.known) (λ _. same_history v) member at_it alone_there is under);
           }),
         )
     | pointer frame within level is owned none ↦
@@ -102,7 +102,7 @@ module _ (f : Layout) (n : ℕ) (good : IsLayout f) (d : WordsDiffer f) (a : Ste
       (frame : ℕ) × (frame < n) × (frame_named f address ≡ frame) × (met f number found v ≡ entered f v frame number place v.tables) × Went f tells alone number v Entered (met f number found v)
   went_entered address read = elim (told place here) [
     | tells_zero none vacant ↦ absurd (d.pointer_some place.level address read.at_level read.a_frame (sym read.word_is ∙ none))
-    | own x member legal at_it alone_there is ↦
+    | own x member legal at_it alone_there is under ↦
         let level : place.level ≡ level_of f x = level_of_piece f place number x at_it in
         absurd (d.apart (level_of f x) x.block.log2 x.block.out x.part address x.block.prot (may_be_leaf f good v x legal) (subst (IsTableLevel f) level read.at_level) read.a_frame
         (sym is ∙ read.word_is ∙ ap (λ (k : ℕ). f.pointer k address) level))

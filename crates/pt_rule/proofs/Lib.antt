@@ -1,8 +1,10 @@
--- Facts for other crates: the laws, and what the rule says of tags, of tables added to a book and of pieces.
+-- Facts for other crates: the laws, and what the rule says of tags, of tables added to a book, of pieces, and of the growth of
+-- one owner's words.
 pub mod Laws
 pub mod TagFacts
 pub mod TablesAdded
 pub mod PieceFacts
+pub mod LoneGrowth
 -- Numbers, lists and positions: totals over views, a few frames, spans, positions and the pieces over them.
 mod TotalsKept
 mod FewFrames
@@ -71,7 +73,6 @@ mod CallsCleared
 mod CallsUnlinked
 mod CallsGrown
 mod CallsMeet
-mod LoneGrowth
 -- Small states by evaluation: lawful ones, steps between them, and spoiled ones.
 mod StateMapped
 mod StateShared

@@ -22,7 +22,7 @@ use Rattle.pt_view.specs.declared.view.Absence.{Absence}
 use Rattle.pt_view.specs.declared.view.Absence.TheVariants.{Zero}
 use Rattle.pt_model.specs.Sets.{IsAmong, IsSorted}
 use Rattle.pt_view.specs.Pieces.{IsOneOf}
-use Rattle.pt_view.specs.Calls.{entry_first, entry_end, is_under, lowest, meets_span, pieces_at, IsEntryAt, IsVacant}
+use Rattle.pt_view.specs.Calls.{entry_first, entry_end, is_under, lowest, meets_span, pieces_at, HasNoTableUnder, IsEntryAt, IsVacant}
 use Rattle.pt_rule.specs.Totals.{total, has_piece}
 use Rattle.pt_rule.specs.Linked.{IsLinkedAt, is_in_tree}
 use Rattle.pt_rule.specs.Lawful.{Lawful, HasPath, IsOnPath, IsChild, IsOwnPiece, IsOwnTable, BeginsOnSpine, Descends, has_child}
@@ -148,11 +148,10 @@ after_some f v x number found step e z is =
     ∙ ap (λ (o : Option Node). met_word f number (f.step (level_at o) found (first_page f number o)) v) e ∙ ap (λ (s : Found). met_word f number s v) is
 
 module _ (f : Layout) (n l : ℕ) (good : IsLayout f) (d : WordsDiffer f) (a : StepsAgree f) where
-  -- where nothing stands at an entry, nothing lies under it
-  pub vacant_at : (words : List ℕ) (views : List View) (id : ℕ) (v : View) (r : Lawful f n l words views) → get_elem? views id ≡ some v → 0 < v.count →
-      (frame number : ℕ) (p : Position) → IsLinkedAt n words views frame p → total (has_piece f p number) views ≡ 0 → has_child f l words views p number ≡ false → IsVacant f v p number
-  vacant_at words views id v r at live frame number p linked none childless = record {
-    no_piece = let most = total_at (has_piece f p number) views id v at in omega arith;
+  -- where no child stands at an entry, no table lies under it
+  pub none_under : (words : List ℕ) (views : List View) (id : ℕ) (v : View) (r : Lawful f n l words views) → get_elem? views id ≡ some v → 0 < v.count →
+      (frame number : ℕ) (p : Position) → IsLinkedAt n words views frame p → has_child f l words views p number ≡ false → HasNoTableUnder f v p number
+  none_under words views id v r at live frame number p linked childless = record {
     no_table = λ q b. not_under q (table_there f n l words views good r id v at q b);
     none_known = λ q b. not_under q (r.known id v at q b).0;
     no_spine = λ level low up. not_under (spine_position level)
@@ -167,6 +166,17 @@ module _ (f : Layout) (n l : ℕ) (good : IsLayout f) (d : WordsDiffer f) (a : S
           let high = ltb-true q.level p.level c.0 in
           false≢true (sym childless ∙ and_from (nat_lt 0 p.level) _ (lt-ltb 0 p.level (omega arith))
           (child_there f n l words views good r p number (linked_there f n l words views good r frame p linked) q t under)))
+
+  -- where nothing stands at an entry, nothing lies under it
+  pub vacant_at : (words : List ℕ) (views : List View) (id : ℕ) (v : View) (r : Lawful f n l words views) → get_elem? views id ≡ some v → 0 < v.count →
+      (frame number : ℕ) (p : Position) → IsLinkedAt n words views frame p → total (has_piece f p number) views ≡ 0 → has_child f l words views p number ≡ false → IsVacant f v p number
+  vacant_at words views id v r at live frame number p linked none childless =
+      let under = none_under words views id v r at live frame number p linked childless in record {
+        no_piece = let most = total_at (has_piece f p number) views id v at in omega arith;
+        no_table = under.no_table;
+        none_known = under.none_known;
+        no_spine = under.no_spine;
+      }
 
   -- what a load of an entry gives
   abbrev pub Looks : (words : List ℕ) → List View → (id : ℕ) → View → (frame number : ℕ) → Position → Type 0
@@ -192,11 +202,14 @@ module _ (f : Layout) (n l : ℕ) (good : IsLayout f) (d : WordsDiffer f) (a : S
             let mine : one.view ≡ v = own_view f n l words views good r p number one id v at live s.meets in
             let nonzero : found ≢ 0 = (λ z. word_some f good one.view one.piece one.own d (sym word ∙ z)) in
             let step = step_of_piece f good a one.view one.piece one.own p number one.here in
-            let e : met f number found v ≡ v = after_some f v x number found _ s.last nonzero (ap (λ (k : ℕ). f.step p.level k (entry_first f p number)) word ∙ step) in (
+            let e : met f number found v ≡ v = after_some f v x number found _ s.last nonzero (ap (λ (k : ℕ). f.step p.level k (entry_first f p number)) word ∙ step) in
+            let alone : pieces_at f p number v.pieces ≡ 1 = subst (λ (u : View). pieces_at f p number u.pieces ≡ 1) mine one.alone in (
               subst (λ (w : View). Lawful f n l (slice_set words place found) (set views id w)) (sym e)
                   (finds_at f n l words views id place v v r at live (stays words views id v r at live v.absent)),
               own one.piece (subst (λ (u : View). IsOneOf u.pieces one.piece) mine one.member) (subst (λ (u : View). IsOwnPiece f u one.piece) mine one.own) one.here
-                  (subst (λ (u : View). pieces_at f p number u.pieces ≡ 1) mine one.alone) word,
+                  alone word
+                  (none_under words views id v r at live frame number p s.linked (false_from_ne_true (has_child f l words views p number) (λ child.
+                  let none = r.entries.apart number p child in let most = total_at (has_piece f p number) views id v at in omega arith))),
             )
         | a_child h child high word ↦
             let facts : IsTableLevel f p.level × IsTableAddress f (frame_address f h) = pointer_facts f n l good words views r frame p s.linked high h child.is_linked.within in

@@ -14,7 +14,7 @@ use Rattle.pt_view.specs.declared.view.View.{View}
 use Rattle.pt_model.specs.Sets.{IsAmong}
 use Rattle.pt_rule.specs.Lawful.{Lawful}
 use Rattle.pt_rule.specs.Kinds.{Keeps, RootTells, after, load_root}
-use Rattle.pt_rule.proofs.TreeFacts.{IsThere, level_low, ends_in_root, spine_there, table_there, whole_alone}
+use Rattle.pt_rule.proofs.TreeFacts.{IsThere, ends_in_root, spine_there, table_there, whole_alone}
 use Rattle.pt_rule.proofs.FindsKept.{Finds, finds_at, finds_of}
 use Rattle.pt_rule.proofs.TotalsKept.{own_in_tree}
 
@@ -30,7 +30,7 @@ module _ (f : Layout) (n l : ℕ) (good : IsLayout f) where
     reaches = r.root.greatest id v at;
     exact = λ all. top all r.root.reached;
     over_tables = λ p a. ends_in_root f n l words views good r p (table_there f n l words views good r id v at p a);
-    over_known = λ p a s. level_low f n l words views good r p (r.known id v at p a).0;
+    over_known = λ p a. ends_in_root f n l words views good r p (r.known id v at p a).0;
   }
     where
       high : ((j : ℕ) × (u : View) × (get_elem? views j ≡ some u) × (0 < u.count) × (u.top ≡ root_level words)) → root_level words < f.levels

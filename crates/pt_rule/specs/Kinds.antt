@@ -17,7 +17,7 @@ use Rattle.pt_view.specs.declared.view.Change.TheVariants.{Written, Cleared}
 use Rattle.pt_model.specs.Sets.{IsAmong, without_position}
 use Rattle.pt_view.specs.Lists.{IsIn}
 use Rattle.pt_view.specs.Pieces.{IsOneOf, add_piece, number_of, table_of, word_of}
-use Rattle.pt_view.specs.Calls.{drop_at, lowest, entry_first, IsBare, IsEntryAt, IsVacant, MeetsEntry, MayDrop, MayInstall, MayPut, off_spine, pieces_at, with_table, all_but_last}
+use Rattle.pt_view.specs.Calls.{drop_at, lowest, entry_first, HasNoTableUnder, IsBare, IsEntryAt, IsVacant, MeetsEntry, MayDrop, MayInstall, MayPut, off_spine, pieces_at, with_table, all_but_last}
 use Rattle.pt_rule.specs.Tags.{IsEnd, first_or, held_word}
 use Rattle.pt_rule.specs.Lawful.{Lawful, IsOwnPiece}
 
@@ -272,7 +272,7 @@ pub record RootTells (f : Layout) (n : ℕ) (v : View) (found : ℕ) : Type 0 wh
   pub reaches : v.top ≤ found % 8
   pub exact : v.count ≡ input_pages f → found % 8 ≡ v.top
   pub over_tables : (p : Position) → IsAmong v.tables p → end_of_table f p ≤ pages_of_table f (found % 8)
-  pub over_known : (p : Position) → IsAmong v.known p → IsTrue (is_spine v.levels p) → p.level ≤ found % 8
+  pub over_known : (p : Position) → IsAmong v.known p → end_of_table f p ≤ pages_of_table f (found % 8)
 
 -- where the span is the whole space, every table of the tree is the book's or of the spine
 abbrev pub IsKnownTable : Layout → View → Position → Type 0
@@ -282,7 +282,7 @@ IsKnownTable f v q = v.count ≡ input_pages f → IsAmong v.tables q ⊎ IsTrue
 pub data EntryTells (f : Layout) (n : ℕ) (v : View) (p : Position) (number found : ℕ) : Type 0 where
   zero : found ≡ 0 → IsVacant f v p number → EntryTells f n v p number found
   own : (x : Piece) → IsOneOf v.pieces x → IsOwnPiece f v x → pieces_at f p number (x ∷ []) ≡ 1 → pieces_at f p number v.pieces ≡ 1 →
-      found ≡ word_of f x → EntryTells f n v p number found
+      found ≡ word_of f x → HasNoTableUnder f v p number → EntryTells f n v p number found
   pointer : (frame : ℕ) → frame < n → IsTableLevel f p.level → found ≡ f.pointer p.level (frame_address f frame) →
       IsKnownTable f v (child_at f p number) →
       pieces_at f p number v.pieces ≡ 0 → EntryTells f n v p number found

@@ -1,4 +1,4 @@
--- The tables of a book at rest, and the range that a sweep of a span goes through.
+-- The tables and the pieces of a book at rest, and the range that a sweep of a span goes through.
 use Rattle.std.proofs.Common.{◌≡◌, ℕ, suc, ◌+◌, ◌*◌, ◌^◌, ◌<◌, ◌≤◌, true, false, List, [], ◌∷◌, length, min, inl, inr, ap, sym, subst, ◌∙◌, arith}
 use Rattle.std.specs.Prelude.{IsTrue, Some, nat_le, slice_index_or, AllPairs}
 use Rattle.std.proofs.lemmas.Bool.{and_from, and_parts, cases_Bool, cases_lt, eq-eqb, false_from_ne_true, false≢true, leb-true, le-leb}
@@ -17,11 +17,18 @@ use Rattle.pt_format.specs.Laws.{IsLayout}
 use Rattle.pt_view.specs.declared.view.View.{View}
 use Rattle.pt_view.specs.Views.{IsAtRest, book_of}
 use Rattle.pt_view.specs.Calls.{Rooted, lowest}
-use Rattle.pt_walk.specs.Walks.{IsFree, IsOverRange}
+use Rattle.pt_view.specs.declared.view.Piece.{Piece}
+use Rattle.pt_view.specs.Pieces.{IsOneOf}
+use Rattle.pt_view.proofs.Pieces.{ends_in_block}
+use Rattle.pt_walk.specs.Walks.{IsOverRange, OwnsAll}
+use Rattle.pt_walk.proofs.Descent.{own_piece}
 use Rattle.pt_walk.proofs.Books.{owns_all}
 use Rattle.pt_walk.proofs.Cuts.{pages_few}
-use Rattle.pt_sweep.specs.Empties.{IsBookTable, IsEmptyRange, lies_below}
-use Rattle.pt_sweep.proofs.EmptyTables.{below_is, below_tells}
+use Rattle.pt_sweep.specs.Empties.{lies_below}
+use Rattle.pt_sweep.specs.Sweeps.{AreApart, CutsNone, IsBookTable, MaySweep, begins_in, end_of_piece}
+use Rattle.pt_sweep.proofs.Apart.{begins_is, begins_not, begins_tells, piece_long}
+use Rattle.pt_sweep.proofs.BlockPieces.{blocks_apart}
+use Rattle.pt_sweep.proofs.SweptTables.{below_is, below_tells}
 
 -- Tables in order.
 
@@ -42,12 +49,13 @@ sorted_tables (q ∷ qs) pairs = (
   sorted_tables qs (λ i j d a z. pairs (suc i) (suc j) d (omega arith) (omega arith)),
 )
 
--- A span without pieces, of a view at rest.
-pub empty_span : (f : Layout) → IsLayout f → (v : View) (blocks : List Block) → f.start ≤ v.levels → IsAtRest f v blocks → IsLawful f v.levels (book_of v blocks) →
-    (first end levels : ℕ) → IsFree f v first end → levels ≡ v.levels → IsEmptyRange f v first end levels
-empty_span f good v blocks start rest lawful first end levels free same = record {
+-- A span that cuts no piece, of a view at rest.
+pub swept_span : (f : Layout) → IsLayout f → (v : View) (blocks : List Block) → f.start ≤ v.levels → IsAtRest f v blocks → IsLawful f v.levels (book_of v blocks) →
+    (first end levels : ℕ) → CutsNone f v first end → levels ≡ v.levels → MaySweep f v first end levels
+swept_span f good v blocks start rest lawful first end levels uncut same = record {
   owns = owns_all f good v blocks start rest lawful;
-  free = free;
+  apart = subst (AreApart f 0) (sym rest.pieces) (blocks_apart f good blocks 0 lawful.in_order (λ c h. omega arith));
+  uncut = uncut;
   tables = λ q m. record {
     off_spine = among_all (λ p. is_spine v.levels p ≡ false) v.tables (recursion_from_All (λ p. is_spine v.levels p ≡ false) v.tables lawful.off_spine) q m;
     aligned = (among_all (IsPosition f) v.tables (recursion_from_All (IsPosition f) v.tables lawful.positions) q m).aligned;
@@ -75,6 +83,41 @@ module _ {f : Layout} (good : IsLayout f) {tells alone : Type 0} {v w : View} {l
         from = omega arith;
         to = omega arith;
       }
+
+  -- The book's pieces end under the root's table.
+  module _ (owns : OwnsAll f v) where
+    piece_low : (x : Piece) → IsOneOf v.pieces x → end_of_piece f x ≤ spine
+    piece_low x m =
+        let o = owns x m in
+        let is = own_piece o in
+        let few = pages_few f good in
+        let legal = o.legal.in_input in
+        let under = o.under_top in
+        let ends = ends_in_block good is in
+        let wide = table_mono f v.top level rooted.reaches in omega arith
+
+    -- the part of the span under it cuts none either
+    pub part_uncut : CutsNone f v first last → CutsNone f v first end
+    part_uncut uncut x m = elim (uncut x m) [
+      | inl before ↦ inl before
+      | inr other ↦ elim other [
+        | inl behind ↦ inr (inl (omega arith))
+        | inr inside ↦ inr (inr (inside.0, (let a = inside.1 in let b = piece_low x m in omega arith)))
+      ]
+    ]
+
+    -- and the same pieces begin there
+    pub same_pieces : (x : Piece) → IsOneOf v.pieces x → begins_in f first last x ≡ begins_in f first end x
+    same_pieces x m =
+        let low = piece_low x m in
+        let long = piece_long f x in
+        elim (cases_Bool (begins_in f first end x)) [
+          | inl e ↦ (let h = begins_tells f first end x e in let b = h.1 in begins_is f first last x h.0 (omega arith) ∙ sym e)
+          | inr e ↦ begins_not f first last x (λ l h. false≢true (sym e ∙ begins_is f first end x l (omega arith))) ∙ sym e
+        ]
+
+    pub none_begin : end ≤ first → (x : Piece) → IsOneOf v.pieces x → begins_in f first last x ≡ false
+    none_begin past x m = same_pieces x m ∙ begins_not f first end x (λ l h. omega arith)
 
   module _ (tables : (q : Position) → IsAmong v.tables q → IsBookTable f v q) (top : starting_top v.levels ≤ level) where
     -- the book's tables are below the root's

@@ -1,6 +1,14 @@
 -- Facts for other crates: frames that are drawn one after another.
 pub mod Drawn
--- tables that are unlinked one after another, those that lie in a range, and those of a book at rest
-mod Empties
-mod EmptyTables
+-- pieces that are apart; sweeps one after another; the tables and the pieces of a range, entry by entry
+mod Apart
+mod Sweeps
+mod SweptTables
+mod SweptPieces
+-- the pieces of a book's blocks, and its tables
+mod BlockPieces
 mod BookTables
+-- the numbers of a request, and the blocks that a range cuts
+mod RangeNumbers
+mod CutBlocks
+mod Unmapped

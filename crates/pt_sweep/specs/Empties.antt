@@ -1,29 +1,13 @@
--- Tables of a range of pages that no block meets, and what their unlinking does.
-use Rattle.std.specs.Prelude.{◌≡◌, ℕ, ◌+◌, ◌%◌, ◌<◌, nat_lt, ◌&&◌, Bool, false, not, filter, List, ◌++◌, length, None}
+-- What the unlinking of the tables in a range of pages that no block meets does.
+use Rattle.std.specs.Prelude.{◌≡◌, ℕ, ◌+◌, nat_lt, ◌&&◌, Bool, false, not, filter, List, ◌++◌, length}
 use Rattle.pt_model.specs.declared.position.Position.{Position}
-use Rattle.pt_model.specs.Layout.{Layout, pages_of_table}
-use Rattle.pt_model.specs.Tables.{is_spine}
-use Rattle.pt_model.specs.Sets.{IsAmong, places}
+use Rattle.pt_model.specs.Layout.{Layout}
+use Rattle.pt_model.specs.Sets.{IsAmong}
 use Rattle.pt_model.specs.Book.{table_lies_in}
 use Rattle.pt_view.specs.declared.view.View.{View}
 use Rattle.pt_view.specs.Lists.{SameFrames}
 use Rattle.pt_view.specs.Views.{SameRange}
 use Rattle.pt_view.specs.Loads.{AddsAbsences}
-use Rattle.pt_walk.specs.Walks.{IsFree, OwnsAll}
-
--- a table of a book: off the spine, and at a multiple of its pages
-pub record IsBookTable (f : Layout) (v : View) (q : Position) : Type 0 where
-  pub off_spine : is_spine v.levels q ≡ false
-  pub aligned : q.base % pages_of_table f q.level ≡ 0
-
--- no piece has a page of a range, and the book's tables are each there once
-pub record IsEmptyRange (f : Layout) (v : View) (first end levels : ℕ) : Type 0 where
-  pub owns : OwnsAll f v
-  pub free : IsFree f v first end
-  pub tables : (q : Position) → IsAmong v.tables q → IsBookTable f v q
-  pub once : (q : Position) → places q v.tables < 2
-  pub levels_are : levels ≡ v.levels
-  pub none : v.prepared ≡ None
 
 -- whether a table lies in a range, and is below a level
 abbrev pub lies_below : Layout → (first end level : ℕ) → Position → Bool

@@ -7,6 +7,11 @@
 
 mod empty;
 mod frames;
+mod refused;
+mod request;
+mod sweep;
 
 pub use empty::clear_empty;
 pub use frames::draw;
+pub use refused::UnmapRefused;
+pub use request::unmap;

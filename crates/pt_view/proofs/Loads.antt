@@ -15,7 +15,7 @@ use Rattle.pt_view.specs.declared.holder.Seen.TheVariants.{Empty, Leaf, Entered}
 use Rattle.pt_view.specs.Pieces.{IsOneOf, entry_number, word_of}
 use Rattle.pt_view.specs.Views.{SameHistory}
 use Rattle.pt_view.specs.Loads.{AddsAbsences, ByLoads, IsInSpan, IsOver}
-use Rattle.pt_view.specs.Calls.{IsVacant, Looked, Rooted, Went, zero as looked_zero, leaf as looked_leaf, table as looked_table, all_but_last, left, lowest, pieces_at}
+use Rattle.pt_view.specs.Calls.{HasNoTableUnder, IsVacant, Looked, Rooted, Went, zero as looked_zero, leaf as looked_leaf, table as looked_table, all_but_last, left, lowest, pieces_at}
 use Rattle.pt_view.proofs.Stays.{book_on, purse_on, range_on}
 use Rattle.pt_view.proofs.Paths.{front_snoc, lowest_snoc}
 use Rattle.pt_view.proofs.Entries.{at_entry, child_is}
@@ -104,6 +104,7 @@ pub record FoundLeaf (f : Layout) (tells : Type 0) (v : View) (p : Position) (nu
   pub member : IsOneOf v.pieces piece
   pub here : pieces_at f p number (piece ∷ []) ≡ 1
   pub word_is : word ≡ word_of f piece
+  pub none_under : HasNoTableUnder f v p number
 
 pub record FoundTable (f : Layout) (tells alone : Type 0) (v : View) (p : Position) (number : ℕ) (w : View) : Type 0 where
   pub frame : ℕ
@@ -126,7 +127,7 @@ found f tells alone v p number _ _ (looked_zero w path known vacant told) = reco
   vacant = vacant;
   told = λ t. record { taken = (told t).0; stores = (told t).2; absent = record { facts = _; are = (told t).1 } };
 }
-found f tells alone v p number _ _ (looked_leaf w word piece path known told member here once is) = record {
+found f tells alone v p number _ _ (looked_leaf w word piece path known told member here once is under) = record {
   path = path;
   known = known;
   told = λ t. same_told (told t);
@@ -134,6 +135,7 @@ found f tells alone v p number _ _ (looked_leaf w word piece path known told mem
   member = member;
   here = here;
   word_is = is;
+  none_under = under;
 }
 found f tells alone v p number _ _ (looked_table w frame path known told high none owned) = record {
   frame = frame;

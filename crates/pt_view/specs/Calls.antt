@@ -84,6 +84,12 @@ pub record IsVacant (f : Layout) (v : View) (p : Position) (number : ℕ) : Type
   pub none_known : (q : Position) → IsAmong v.known q → is_under f p number q ≡ false
   pub no_spine : (level : ℕ) → starting_top v.levels ≤ level → level ≤ v.top → is_under f p number (spine_position level) ≡ false
 
+-- no table, position found linked or spine position of the book lies under the entry
+pub record HasNoTableUnder (f : Layout) (v : View) (p : Position) (number : ℕ) : Type 0 where
+  pub no_table : (q : Position) → IsAmong v.tables q → is_under f p number q ≡ false
+  pub none_known : (q : Position) → IsAmong v.known q → is_under f p number q ≡ false
+  pub no_spine : (level : ℕ) → starting_top v.levels ≤ level → level ≤ v.top → is_under f p number (spine_position level) ≡ false
+
 -- What the calls do. Each keeps the range; what is not named as changed stays.
 
 pub record Rooted (f : Layout) (tells alone : Type 0) (v : View) (level : ℕ) (w : View) : Type 0 where
@@ -98,7 +104,7 @@ pub record Rooted (f : Layout) (tells alone : Type 0) (v : View) (level : ℕ) (
   pub legal : level < f.levels
   pub reaches : v.top ≤ level
   pub over_tables : (p : Position) → IsAmong v.tables p → end_of_table f p ≤ pages_of_table f level
-  pub over_known : (p : Position) → IsAmong v.known p → IsTrue (is_spine v.levels p) → p.level ≤ level
+  pub over_known : (p : Position) → IsAmong v.known p → end_of_table f p ≤ pages_of_table f level
   pub exact : alone → level ≡ v.top
 
 -- a load of the entry found this
@@ -108,7 +114,7 @@ pub data Looked (f : Layout) (tells alone : Type 0) (v : View) (p : Position) (n
       Looked f tells alone v p number Empty w
   leaf : (w : View) (word : ℕ) (piece : Piece) → w.path ≡ v.path → SamePositions v.known w.known → (tells → SameHistory v w) →
       IsOneOf v.pieces piece → pieces_at f p number (piece ∷ []) ≡ 1 → pieces_at f p number v.pieces ≡ 1 → word ≡ word_of f piece →
-      Looked f tells alone v p number (Leaf word) w
+      HasNoTableUnder f v p number → Looked f tells alone v p number (Leaf word) w
   table : (w : View) (frame : ℕ) → w.path ≡ v.path ++ record { frame = frame; position = child_at f p number } ∷ [] →
       AddsPositions v.known w.known (λ q. q ≡ child_at f p number) → (tells → SameHistory v w) → 0 < p.level →
       pieces_at f p number v.pieces ≡ 0 →

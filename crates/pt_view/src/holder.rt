@@ -7,7 +7,7 @@ ghost use Rattle.pt_view.specs.declared.view.View.{View};
 ghost use Rattle.pt_model.specs.Layout.{input_pages};
 ghost use Rattle.pt_view.specs.Views.{Aside, Stays, IsLawfulAtRest};
 ghost use Rattle.pt_view.specs.Calls.{MeetsEntry, Rooted, Went, left};
-ghost use Rattle.pt_view.specs.Calls.{IsPrepared, IsPlaced, IsUnplaced, MayInstall, IsInstalled, InstallFinds};
+ghost use Rattle.pt_view.specs.Calls.{IsPrepared, IsPlaced, IsUnplaced, MayInstall, IsInstalled, InstallFinds, MayGrow, IsGrown};
 ghost use Rattle.pt_view.specs.Calls.{MayWrite, IsWritten, MayWriteRun, IsWrittenRun};
 ghost use Rattle.pt_view.specs.Calls.{MayClear, IsCleared, MayUnlink, IsUnlinked, UnlinkFinds};
 ghost use Rattle.pt_view.specs.Runs.{MayClearRun, IsClearedRun};
@@ -98,6 +98,12 @@ pub trait Holder<F: Format> {
         ensures stays { Stays space aside alone self.old self.new }
         ensures installed { IsInstalled F.layout tells number (view self.old) result (view self.new) }
         ensures found { InstallFinds F.layout (alone self.old) number (view self.old) result };
+
+    /// Makes the prepared frame the top over the root, and goes to it, where no other holder raised the root before.
+    fn grow(&mut self) -> Won
+        requires { MayGrow (view self.old) }
+        ensures stays { Stays space aside alone self.old self.new }
+        ensures grown { IsGrown F.layout tells (alone self.old) (view self.old) result (view self.new) };
 
     /// Writes a word of a block into an entry of the path's last table.
     fn write(&mut self, number: u32, word: u64)

@@ -18,7 +18,7 @@ use Rattle.pt_view.specs.declared.holder.Seen.{Seen}
 use Rattle.pt_view.specs.declared.holder.Seen.TheVariants.{Empty, Leaf, Entered}
 use Rattle.pt_view.specs.Pieces.{IsLegalPiece, IsOneOf, IsUnderPiece, entry_number, level_of, table_of}
 use Rattle.pt_view.specs.Views.{SameBook, SameRange}
-use Rattle.pt_view.specs.Calls.{IsVacant, is_under, lowest, pieces_at}
+use Rattle.pt_view.specs.Calls.{HasNoTableUnder, is_under, lowest, pieces_at}
 use Rattle.pt_view.proofs.Pieces.{counted, has_page_here, page_in_block, stands_here, table_under, word_some}
 use Rattle.pt_view.proofs.Loads.{IsLoad, load_leaf, load_none, load_table, table_over}
 use Rattle.pt_walk.specs.Walks.{HasNone, HasNowhere, IsFound, IsAsked, IsGoing, IsStarting, IsOwn, OwnsAll, leaf_in}
@@ -75,22 +75,26 @@ module _ {f : Layout} (good : IsLayout f) {tells alone : Type 0} {v : View} {pag
   none_here x member has none same =
       let c = counted f (position_over f page level) (entry_number f level page) v.pieces x member (stands_here good (own_piece (owns x member)) has level same) in omega arith
 
-  none_under : (x : Piece) → IsOneOf v.pieces x → IsUnderPiece f x page → IsVacant f v (position_over f page level) (entry_number f level page) → level_of f x < level → ⊥
-  none_under x member has vacant low =
+  none_under : (x : Piece) → IsOneOf v.pieces x → IsUnderPiece f x page → HasNoTableUnder f v (position_over f page level) (entry_number f level page) → level_of f x < level → ⊥
+  none_under x member has none low =
       let o : IsOwn f v x = owns x member in
       let under : is_under f (position_over f page level) (entry_number f level page) (table_of f x) ≡ true = table_under good (own_piece o) has level low in
       ⊎_elim
-      (λ (among : IsAmong v.tables (table_of f x)). false≢true (sym (vacant.no_table (table_of f x) among) ∙ under))
+      (λ (among : IsAmong v.tables (table_of f x)). false≢true (sym (none.no_table (table_of f x) among) ∙ under))
       (λ (spine : IsTrue (is_spine v.levels (table_of f x))).
       let b : (nat_le (starting_top v.levels) (level_of f x) ≡ true) × (((table_of f x).base == 0) ≡ true) = and_parts (nat_le (starting_top v.levels) (level_of f x)) _ spine in
       let is : table_of f x ≡ spine_position (level_of f x) = same_position (table_of f x) (spine_position (level_of f x)) refl (eqb-true (table_of f x).base 0 b.1) in
-      false≢true (sym (vacant.no_spine (level_of f x) (leb-true (starting_top v.levels) (level_of f x) b.0) o.low)
+      false≢true (sym (none.no_spine (level_of f x) (leb-true (starting_top v.levels) (level_of f x) b.0) o.low)
       ∙ ap (λ (q : Position). is_under f (position_over f page level) (entry_number f level page) q) (sym is) ∙ under))
       o.in_table
 
   pub empty_none : seen ≡ Empty → HasNone f v page level
   empty_none e = λ x member has low. let vacant = (load_none l e).vacant in
-      dite (ℕ_discrete (level_of f x) level) (λ same. none_here x member has vacant.no_piece same) (λ ne. none_under x member has vacant (omega arith))
+      dite (ℕ_discrete (level_of f x) level) (λ same. none_here x member has vacant.no_piece same) (λ ne. none_under x member has (record { no_table = vacant.no_table; none_known = vacant.none_known; no_spine = vacant.no_spine }) (omega arith))
+
+  -- no piece that has the page stands below a leaf
+  pub leaf_none : {word : ℕ} → seen ≡ Leaf word → (x : Piece) → IsOneOf v.pieces x → IsUnderPiece f x page → level_of f x < level → ⊥
+  leaf_none e x member has low = none_under x member has (load_leaf l e).none_under low
 
   pub leaf_found : {word : ℕ} → seen ≡ Leaf word → IsFound f v page level word
   leaf_found e =

@@ -69,7 +69,7 @@ range_from {f} {first = first} {level = level} same path r at to low some high =
 -- The range lies under one entry of the table, which is loaded.
 module _ {f : Layout} (good : IsLayout f) {tells alone : Type 0} {v : View} {first end level : ℕ} (r : IsOverRange f v first end level)
     (one : end ≤ (first / pages_of_entry f level + 1) * pages_of_entry f level) {seen : Seen} {w : View} (l : IsLoad f tells alone v first level seen w) where
-  load_at : (page : ℕ) → first ≤ page → page < end → IsLoad f tells alone v page level seen w
+  pub load_at : (page : ℕ) → first ≤ page → page < end → IsLoad f tells alone v page level seen w
   load_at page low high = record {
     over = over_page r.over page low (let u = r.under in omega arith);
     inside = (let a = r.from in omega arith, let b = r.to in omega arith);

@@ -1,0 +1,4 @@
+pub mod AmdWords
+pub mod Sizes
+pub mod AmdFacts
+pub mod AmdLaws
