@@ -15,11 +15,10 @@ use Rattle.pt_model.specs.Book.{Book, MapRefusal, Misaligned, OutsideLease, Outp
 use Rattle.pt_model.specs.Run.{after_map, map_answer, refused_answer}
 use Rattle.pt_view.specs.declared.view.View.{View}
 use Rattle.pt_view.specs.declared.view.Piece.{Piece}
-use Rattle.pt_view.specs.Pieces.{IsOneOf, all_pieces, pieces_of, words_of}
+use Rattle.pt_view.specs.Pieces.{all_pieces, pieces_of, words_of}
 use Rattle.pt_view.specs.Views.{IsAtRest, SameBook, SameRange, book_of, linked_of}
-use Rattle.pt_model.specs.Sets.{IsAmong}
 use Rattle.pt_view.specs.Loads.{ByLoads}
-use Rattle.pt_map.specs.Answers.{HasNoEmptyTable, IsMapped, IsRefused, extent_at, lacking}
+use Rattle.pt_map.specs.Answers.{IsMapped, IsRefused, extent_at, lacking}
 use Rattle.iopt.specs.Built.{machine}
 use Rattle.iopt.specs.Running.{IsReady, MapsAs, blocks_of, book_in, machine_in}
 
@@ -58,7 +57,7 @@ pub blocks_are : (f : Layout) (v : View) (bs : List Block) → IsAtRest f v bs �
 blocks_are f v bs rest = ap blocks_of rest.pieces ∙ blocks_back f bs
 
 -- A map, its answer and the book after it.
-module _ (f : Layout) (v w : View) (ready : IsReady f v) (va pa len : ℕ) (prot : Prot) (full : HasNoEmptyTable f w) where
+module _ (f : Layout) (v w : View) (ready : IsReady f v) (va pa len : ℕ) (prot : Prot) where
   abbrev blocks : List Block
   blocks = blocks_of v.pieces
 
@@ -109,7 +108,6 @@ module _ (f : Layout) (v w : View) (ready : IsReady f v) (va pa len : ℕ) (prot
         pieces = book.pieces ∙ ready.rest.pieces ∙ ap (λ (xs : List Piece). all_pieces f (blocks_of xs)) (sym book.pieces);
       };
       levels = range.levels ∙ ready.levels;
-      full = full;
     };
     machine = same_machine range;
     answers = is;
@@ -138,7 +136,7 @@ module _ (f : Layout) (v w : View) (ready : IsReady f v) (va pa len : ℕ) (prot
       let is : map_answer (machine_in f v) (book_in v) va pa len prot ≡ mapping.Mapped = answer_by None false e (short_is false (le-ltb v.frames (linked_of v + length lacks) enough)) in
       let now : blocks_of w.pieces ≡ (mapped f v.levels (book_of v blocks) first (first + count - first) out prot).blocks = blocks_are f w _ done.rest in
       record {
-        ready = record { rest = subst (IsAtRest f w) (sym now) done.rest; levels = done.range.levels ∙ ready.levels; full = full };
+        ready = record { rest = subst (IsAtRest f w) (sym now) done.rest; levels = done.range.levels ∙ ready.levels };
         machine = same_machine done.range;
         answers = sym is;
         book = (λ i. record { first = done.range.first i; count = done.range.count i; blocks = now i; tables = done.tables i; top = done.top i })
@@ -152,9 +150,6 @@ looked f tells v w ready walked rest = (
   record {
     rest = subst (λ (xs : List Piece). IsAtRest f w (blocks_of xs)) (sym walked.book.pieces) rest;
     levels = walked.range.levels ∙ ready.levels;
-    full = λ p among.
-        let x = ready.full p (subst (λ (ps : List Position). IsAmong ps p) walked.book.tables among) in
-        (x.0, subst (λ (xs : List Piece). IsOneOf xs x.0) (sym walked.book.pieces) x.1, x.2, x.3);
   },
   λ i. record { first = walked.range.first i; count = walked.range.count i; blocks = blocks_of (walked.book.pieces i); tables = walked.book.tables i; top = walked.book.top i },
 )

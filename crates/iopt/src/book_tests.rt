@@ -9,6 +9,7 @@ use crate::text::push_reply;
 use crate::top::run;
 use crate::words::Words;
 use fmt_riscv::RiscV;
+use fmt_vmsa::Vmsa;
 use fmt_vtdss::VtdSs;
 use fmt_x86::X86;
 use pt_book::ListBook;
@@ -170,6 +171,9 @@ fn replies_by_book(alloc: Global, script: &Script) -> Result<Vec<u8>, Fail> {
         Name::VtdSs5 => book_replies::<VtdSs<5>>(alloc, script),
         Name::X86L4 => book_replies::<X86<4>>(alloc, script),
         Name::X86L5 => book_replies::<X86<5>>(alloc, script),
+        Name::Vmsa4 => book_replies::<Vmsa<12>>(alloc, script),
+        Name::Vmsa16 => book_replies::<Vmsa<14>>(alloc, script),
+        Name::Vmsa64 => book_replies::<Vmsa<16>>(alloc, script),
         Name::Sv39 => book_replies::<RiscV<3>>(alloc, script),
         Name::Sv48 => book_replies::<RiscV<4>>(alloc, script),
         Name::Sv57 => book_replies::<RiscV<5>>(alloc, script),
@@ -211,6 +215,26 @@ pub(crate) fn agree_in(
     agree(alloc, &text)
 }
 
+/// Whether the program and the book agree on these lines in each number of frames of a format.
+fn agree_in_frames(alloc: Global, format: FormatCase, lines: &[u8]) -> Result<bool, Fail> {
+    for frames in format.frames {
+        if !agree_in(alloc, format, frames, lines)? {
+            return Ok(false);
+        }
+    }
+    Ok(true)
+}
+
+/// The same, in each format.
+pub(crate) fn agree_everywhere(alloc: Global, lines: &[u8]) -> Result<bool, Fail> {
+    for format in FORMATS {
+        if !agree_in_frames(alloc, format, lines)? {
+            return Ok(false);
+        }
+    }
+    Ok(true)
+}
+
 /// Input addresses: whole ones and others, in the spaces and at their ends, and past them.
 const PLACES: [u64; 8] = [
     0x0,
@@ -241,9 +265,15 @@ const LENGTHS: [u64; 8] = [
 fn mixed(line: u32) -> What {
     let mix = u64::from(line).wrapping_mul(0x9e37_79b9_7f4a_7c15);
     let va = PLACES[(mix >> 40) as usize % 8];
-    if mix >> 60 < 6 {
+    if mix >> 60 < 4 {
         return What::Lookup {
             va: va ^ (mix >> 32 & 0x7ff),
+        };
+    }
+    if mix >> 60 < 8 {
+        return What::Unmap {
+            va,
+            len: LENGTHS[(mix >> 36) as usize % 8],
         };
     }
     What::Map {
@@ -293,7 +323,7 @@ pub(crate) fn push_line(out: &mut Vec<u8>, what: What) -> Result<(), Fail> {
 #[test]
 fn mixed_commands_are_answered_as_by_the_book(rt: HostRuntime) -> Result<(), Fail> {
     let mut lines = Vec::new(rt.alloc());
-    for line in 4..84 {
+    for line in 4..124 {
         push_line(&mut lines, mixed(line))?;
     }
     for format in FORMATS {

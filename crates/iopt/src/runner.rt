@@ -6,15 +6,17 @@ ghost use Rattle.pt_model.specs.Run.{run_of};
 ghost use Rattle.pt_model.specs.Text.{replies_text};
 ghost use Rattle.pt_plain.specs.Owner.{none_aside};
 ghost use Rattle.iopt.specs.Built.{is_built, are_built, machine};
-ghost use Rattle.iopt.specs.Telling.{IsTellable};
-ghost use Rattle.iopt.specs.Running.{IsReady, MapsAs, FindsAs, AnswersAs};
+ghost use Rattle.iopt.specs.Telling.{has_small_blocks, IsTellable, NamesLegalBlock};
+ghost use Rattle.iopt.specs.Running.{IsReady, MapsAs, UnmapsAs, FindsAs, AnswersAs};
 
 use crate::text::push_reply;
 use pt_format::Format;
 use pt_map::{MapRefused, map};
-use pt_model::{Answer, Command, LookupAnswer, MapAnswer, Prot, Reply, What};
+use pt_model::{Answer, Command, LookupAnswer, MapAnswer, Prot, Reply, UnmapAnswer, What};
 use pt_num::Memory;
 use pt_plain::Plain;
+use pt_sweep::{UnmapRefused, unmap};
+use pt_view::Holder;
 use pt_walk::{OutsideLease, lookup};
 use std::alloc::Global;
 
@@ -35,6 +37,23 @@ fn map_range<F: Format>(plain: &mut Plain<F>, va: u64, pa: u64, len: u64, prot: 
     }
 }
 
+fn unmap_range<F: Format>(plain: &mut Plain<F>, va: u64, len: u64) -> UnmapAnswer
+    requires small { IsTrue (has_small_blocks F.layout) }
+    requires ready { IsReady F.layout plain.old.view }
+    ensures aside { plain.new.aside ≡ plain.old.aside }
+    ensures unmaps { UnmapsAs F.layout plain.old.view plain.new.view va len result }
+    ensures legal { NamesLegalBlock F.layout result }
+{
+    // that the book at rest is lawful is part of the answer
+    let _span = Holder::<F>::range(plain);
+    match unmap::<F, Plain<F>>(plain, va, len) {
+        Ok(pages) => UnmapAnswer::Unmapped { pages },
+        Err(UnmapRefused::Misaligned) => UnmapAnswer::Misaligned,
+        Err(UnmapRefused::OutsideLease) => UnmapAnswer::Outside,
+        Err(UnmapRefused::CutsEntry { block }) => UnmapAnswer::Cuts { block },
+    }
+}
+
 fn look_up<F: Format>(plain: &mut Plain<F>, va: u64) -> LookupAnswer
     requires ready { IsReady F.layout plain.old.view }
     ensures aside { plain.new.aside ≡ plain.old.aside }
@@ -50,6 +69,7 @@ fn look_up<F: Format>(plain: &mut Plain<F>, va: u64) -> LookupAnswer
 /// Answers a command.
 fn answer<F: Format>(plain: &mut Plain<F>, what: What) -> Answer
     requires fixed { F.layout.grows ≡ false }
+    requires small { IsTrue (has_small_blocks F.layout) }
     requires ready { IsReady F.layout plain.old.view }
     requires alone { plain.old.aside ≡ none_aside }
     requires built { IsTrue (is_built what) }
@@ -59,6 +79,7 @@ fn answer<F: Format>(plain: &mut Plain<F>, what: What) -> Answer
 {
     match what {
         What::Map { va, pa, len, prot } => Answer::Map(map_range(plain, va, pa, len, prot)),
+        What::Unmap { va, len } => Answer::Unmap(unmap_range(plain, va, len)),
         What::Lookup { va } => Answer::Lookup(look_up(plain, va)),
         _ => unreachable!(),
     }
@@ -74,6 +95,7 @@ pub fn run_commands<F: Format>(
     commands: &[Command],
 ) -> Result<Vec<u8>, Memory>
     requires fixed { F.layout.grows ≡ false }
+    requires small { IsTrue (has_small_blocks F.layout) }
     requires levels { levels ≡ F.layout.levels }
     requires few { frames ≤ frame_limit F.layout }
     requires hold { hold < frames }

@@ -1,8 +1,7 @@
 //! Scripts over all formats and in several numbers of frames, each against the slow book of the definitions.
 
-use crate::book_tests::{FORMATS, FormatCase, agree_in, push_line};
+use crate::book_tests::{FORMATS, FormatCase, agree_everywhere, agree_in, push_line};
 use pt_model::{Prot, What};
-use std::alloc::Global;
 use std::test::Fail;
 
 const PAGE: u64 = 0x1000;
@@ -45,26 +44,6 @@ const MAPS: [&[u8]; 7] = [
         map 0x1000000 0x0 0x1000 rw\nmap 0x40000000 0x0 0x2000 r\n\
         map 0x80000000 0x0 0x1000 rw\nlookup 0x1000000\nlookup 0x40001000\nlookup 0x80000000\n",
 ];
-
-/// Whether the program and the book agree on these lines in each number of frames of a format.
-fn agree_in_frames(alloc: Global, format: FormatCase, lines: &[u8]) -> Result<bool, Fail> {
-    for frames in format.frames {
-        if !agree_in(alloc, format, frames, lines)? {
-            return Ok(false);
-        }
-    }
-    Ok(true)
-}
-
-/// The same, in each format.
-fn agree_everywhere(alloc: Global, lines: &[u8]) -> Result<bool, Fail> {
-    for format in FORMATS {
-        if !agree_in_frames(alloc, format, lines)? {
-            return Ok(false);
-        }
-    }
-    Ok(true)
-}
 
 #[test]
 fn maps_are_answered_as_by_the_book(rt: HostRuntime) -> Result<(), Fail> {

@@ -13,7 +13,7 @@ returns-in-Ok-clause-maps g c =
     let e = c.in-Ok.ensures in
     let rest = c.requires.ready.rest in
     let enough = (e.accounted tt (blocks_of v.pieces) rest).enough in
-    maps f v w c.requires.ready c.args.va c.args.pa c.args.len c.args.prot e.full
+    maps f v w c.requires.ready c.args.va c.args.pa c.args.len c.args.prot
     (e.answered.accepted (blocks_of v.pieces) rest) (omega arith) (e.answered.mapped (blocks_of v.pieces) rest)
 
 pub returns-in-Err-NoFrames-clause-maps : goal.returns-in-Err-NoFrames-clause-maps
@@ -27,5 +27,5 @@ returns-in-Err-NoFrames-clause-maps g c =
     let short = subst (IsShortOf f v (linked_count v c.args.plain.now.aside) (blocks_of v.pieces) x) c.in-Err-NoFrames.field-0-is ((e.accounted tt).1 (blocks_of v.pieces) rest) in
     let more = short.0 in
     let none : length c.args.plain.now.aside.positions ≡ 0 = ap (λ (a : Aside). length a.positions) c.requires.alone in
-    wants f v w c.requires.ready c.args.va c.args.pa c.args.len c.args.prot e.full
+    wants f v w c.requires.ready c.args.va c.args.pa c.args.len c.args.prot
     (e.answered.refused (blocks_of v.pieces) rest ∙ ap refusal_of c.in-Err-NoFrames.field-0-is) (omega arith) e.answered.stays
