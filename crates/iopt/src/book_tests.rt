@@ -20,83 +20,132 @@ use pt_stream::{MemorySink, SureSource, push_dec, push_hex};
 use std::alloc::Global;
 use std::test::Fail;
 
-/// A format, by its name in a script, and numbers of frames to run scripts in. The input space ends at `end`, and its
-/// last page begins at `last`; so for the outputs.
+/// A format, by its name in a script and the log2 of the bytes of its pages, and numbers of frames to run scripts in.
+/// The input space ends at `end`, and its last page begins at `last`; so for the outputs.
 #[derive(Clone, Copy)]
 pub(crate) struct FormatCase {
     pub name: &'static [u8],
+    pub granule: u32,
     pub end: u64,
     pub last: u64,
     pub outputs_end: u64,
     pub last_output: u64,
+    /// The bytes of a group of sixteen pages or more, of the lowest table, and of the one above.
+    pub borders: [u64; 3],
     /// One, the fewest that map a page, and more.
     pub frames: [u32; 5],
 }
 
 /// The formats that run. Their frames are one, as many as the levels, two more than those, twice as many, and sixty.
-pub(crate) const FORMATS: [FormatCase; 8] = [
+pub(crate) const FORMATS: [FormatCase; 11] = [
     FormatCase {
         name: b"vtdss3",
+        granule: 12,
         end: 0x80_0000_0000,
         last: 0x7f_ffff_f000,
         outputs_end: 0x10_0000_0000_0000,
         last_output: 0xf_ffff_ffff_f000,
+        borders: [0x1_0000, 0x20_0000, 0x4000_0000],
         frames: [1, 3, 5, 6, 60],
     },
     FormatCase {
         name: b"vtdss4",
+        granule: 12,
         end: 0x1_0000_0000_0000,
         last: 0xffff_ffff_f000,
         outputs_end: 0x10_0000_0000_0000,
         last_output: 0xf_ffff_ffff_f000,
+        borders: [0x1_0000, 0x20_0000, 0x4000_0000],
         frames: [1, 4, 6, 8, 60],
     },
     FormatCase {
         name: b"vtdss5",
+        granule: 12,
         end: 0x200_0000_0000_0000,
         last: 0x1ff_ffff_ffff_f000,
         outputs_end: 0x10_0000_0000_0000,
         last_output: 0xf_ffff_ffff_f000,
+        borders: [0x1_0000, 0x20_0000, 0x4000_0000],
         frames: [1, 5, 7, 10, 60],
     },
     FormatCase {
         name: b"x86-4",
+        granule: 12,
         end: 0x8000_0000_0000,
         last: 0x7fff_ffff_f000,
         outputs_end: 0x10_0000_0000_0000,
         last_output: 0xf_ffff_ffff_f000,
+        borders: [0x1_0000, 0x20_0000, 0x4000_0000],
         frames: [1, 4, 6, 8, 60],
     },
     FormatCase {
         name: b"x86-5",
+        granule: 12,
         end: 0x100_0000_0000_0000,
         last: 0xff_ffff_ffff_f000,
         outputs_end: 0x10_0000_0000_0000,
         last_output: 0xf_ffff_ffff_f000,
+        borders: [0x1_0000, 0x20_0000, 0x4000_0000],
         frames: [1, 5, 7, 10, 60],
     },
     FormatCase {
+        name: b"vmsa4",
+        granule: 12,
+        end: 0x1_0000_0000_0000,
+        last: 0xffff_ffff_f000,
+        outputs_end: 0x1_0000_0000_0000,
+        last_output: 0xffff_ffff_f000,
+        borders: [0x1_0000, 0x20_0000, 0x4000_0000],
+        frames: [1, 4, 6, 8, 60],
+    },
+    FormatCase {
+        name: b"vmsa16",
+        granule: 14,
+        end: 0x1_0000_0000_0000,
+        last: 0xffff_ffff_c000,
+        outputs_end: 0x1_0000_0000_0000,
+        last_output: 0xffff_ffff_c000,
+        borders: [0x20_0000, 0x200_0000, 0x10_0000_0000],
+        frames: [1, 4, 6, 8, 60],
+    },
+    FormatCase {
+        name: b"vmsa64",
+        granule: 16,
+        end: 0x1_0000_0000_0000,
+        last: 0xffff_ffff_0000,
+        outputs_end: 0x1_0000_0000_0000,
+        last_output: 0xffff_ffff_0000,
+        borders: [0x20_0000, 0x2000_0000, 0x400_0000_0000],
+        frames: [1, 3, 5, 6, 60],
+    },
+    FormatCase {
         name: b"sv39",
+        granule: 12,
         end: 0x40_0000_0000,
         last: 0x3f_ffff_f000,
         outputs_end: 0x100_0000_0000_0000,
         last_output: 0xff_ffff_ffff_f000,
+        borders: [0x1_0000, 0x20_0000, 0x4000_0000],
         frames: [1, 3, 5, 6, 60],
     },
     FormatCase {
         name: b"sv48",
+        granule: 12,
         end: 0x8000_0000_0000,
         last: 0x7fff_ffff_f000,
         outputs_end: 0x100_0000_0000_0000,
         last_output: 0xff_ffff_ffff_f000,
+        borders: [0x1_0000, 0x20_0000, 0x4000_0000],
         frames: [1, 4, 6, 8, 60],
     },
     FormatCase {
         name: b"sv57",
+        granule: 12,
         end: 0x100_0000_0000_0000,
         last: 0xff_ffff_ffff_f000,
         outputs_end: 0x100_0000_0000_0000,
         last_output: 0xff_ffff_ffff_f000,
+        borders: [0x1_0000, 0x20_0000, 0x4000_0000],
         frames: [1, 5, 7, 10, 60],
     },
 ];
@@ -196,6 +245,41 @@ fn agree(alloc: Global, text: &[u8]) -> Result<bool, Fail> {
     Ok(status == Status::Done && !expected.is_empty() && sink.bytes() == expected.as_slice())
 }
 
+/// What a command asks for, where its numbers are those of pages of 4 KiB and the format's are `2^shift` times as large.
+fn scaled(what: What, shift: u32) -> What
+    requires { shift < 64 }
+{
+    match what {
+        What::Map { va, pa, len, prot } => What::Map {
+            va: va << shift,
+            pa: pa << shift,
+            len: len << shift,
+            prot,
+        },
+        What::Unmap { va, len } => What::Unmap {
+            va: va << shift,
+            len: len << shift,
+        },
+        What::Lookup { va } => What::Lookup { va: va << shift },
+        other => other,
+    }
+}
+
+/// The lines of maps, unmaps and lookups of pages of 4 KiB, for pages that are `2^shift` times as large.
+pub(crate) fn scaled_lines(alloc: Global, lines: &[u8], shift: u32) -> Result<Vec<u8>, Fail>
+    requires { shift < 64 }
+{
+    let mut text = Vec::from_slice(alloc, b"format vtdss5\nframes 1\nhold 0\n")?;
+    text.extend_from_slice(lines)?;
+    text.extend_from_slice(b"close\nend\n")?;
+    let script = parse(alloc, &text)?;
+    let mut out = Vec::new(alloc);
+    for command in script.body.commands() {
+        push_line(&mut out, scaled(command.what, shift))?;
+    }
+    Ok(out)
+}
+
 /// Whether the program and the book agree on these lines, in so many frames of which half are held.
 pub(crate) fn agree_in(
     alloc: Global,
@@ -215,10 +299,12 @@ pub(crate) fn agree_in(
     agree(alloc, &text)
 }
 
-/// Whether the program and the book agree on these lines in each number of frames of a format.
+/// Whether the program and the book agree on these lines of pages of 4 KiB, or of the format's pages in their place, in
+/// each number of frames of a format.
 fn agree_in_frames(alloc: Global, format: FormatCase, lines: &[u8]) -> Result<bool, Fail> {
+    let lines = scaled_lines(alloc, lines, format.granule.saturating_sub(12) % 64)?;
     for frames in format.frames {
-        if !agree_in(alloc, format, frames, lines)? {
+        if !agree_in(alloc, format, frames, &lines)? {
             return Ok(false);
         }
     }

@@ -4,8 +4,6 @@ use crate::book_tests::{FORMATS, FormatCase, agree_everywhere, agree_in, push_li
 use pt_model::{Prot, What};
 use std::test::Fail;
 
-const PAGE: u64 = 0x1000;
-
 /// Lines of maps and lookups.
 const MAPS: [&[u8]; 7] = [
     // outputs that are a page off alignment, and ones that are aligned to 2 MiB alone
@@ -60,25 +58,26 @@ fn map(va: u64, pa: u64, len: u64) -> What {
 
 /// Maps and lookups of the last page of the space, of the first one past it, and onto the last output page.
 fn at_the_ends(format: FormatCase) -> [What; 15] {
+    let page = 1 << (format.granule % 64);
+    let table = format.borders[1];
+    let last_table = format.last & !table.wrapping_sub(1);
     [
-        map(format.last, 0, PAGE),
-        map(format.last, 0, 2 * PAGE),
-        map(format.end, 0, PAGE),
+        map(format.last, 0, page),
+        map(format.last, 0, page.wrapping_add(page)),
+        map(format.end, 0, page),
         What::Lookup {
             va: format.last | 0xfff,
         },
         What::Lookup { va: format.end },
-        map(0, format.last_output, PAGE),
+        map(0, format.last_output, page),
         What::Lookup { va: 0xfff },
-        map(2 * PAGE, format.last_output, 2 * PAGE),
-        map(2 * PAGE, format.outputs_end, PAGE),
-        map(format.last & !0x1f_ffff, 0x40_0000, 0x1f_f000),
-        What::Lookup {
-            va: format.last & !0x1f_ffff,
-        },
-        map(0x20_0000, format.last_output & !0x1f_ffff, 0x20_0000),
-        What::Lookup { va: 0x3f_ffff },
-        map(0xffff_ffff_ffff_f000, 0, PAGE),
+        map(table, format.last_output, page.wrapping_add(page)),
+        map(table, format.outputs_end, page),
+        map(last_table, table, table.wrapping_sub(page)),
+        What::Lookup { va: last_table },
+        map(table, format.last_output & !table.wrapping_sub(1), table),
+        What::Lookup { va: table | 0xfff },
+        map(page.wrapping_neg(), 0, page),
         What::Lookup {
             va: 0xffff_ffff_ffff_ffff,
         },

@@ -1,11 +1,9 @@
 //! Scripts that take ranges away, over all formats, each against the slow book of the definitions.
 
-use crate::book_tests::{FORMATS, FormatCase, agree_everywhere, agree_in, push_line};
+use crate::book_tests::{FORMATS, FormatCase, agree_everywhere, agree_in, push_line, scaled_lines};
 use pt_model::{Prot, What};
 use std::alloc::Global;
 use std::test::Fail;
-
-const PAGE: u64 = 0x1000;
 
 /// Lines of unmaps, with the maps before and after them.
 const UNMAPS: [&[u8]; 6] = [
@@ -49,8 +47,8 @@ fn unmaps_are_answered_as_by_the_book(rt: HostRuntime) -> Result<(), Fail> {
 fn a_page_comes_and_goes_a_thousand_times(rt: HostRuntime) -> Result<(), Fail> {
     let mut lines = Vec::new(rt.alloc());
     for _ in 0..500 {
-        lines.extend_from_slice(b"map 0x1000 0x5000 0x1000 rw\nunmap 0x1000 0x1000\n")?;
-        lines.extend_from_slice(b"map 0x1000 0x5000 0x1000 rw\nunmap 0x0 0x40000000\n")?;
+        lines.extend_from_slice(b"map 0x10000 0x50000 0x10000 rw\nunmap 0x10000 0x10000\n")?;
+        lines.extend_from_slice(b"map 0x10000 0x50000 0x10000 rw\nunmap 0x0 0x40000000\n")?;
     }
     for format in FORMATS {
         assert!(rt; agree_in(rt.alloc(), format, format.frames[1], &lines)?);
@@ -60,13 +58,19 @@ fn a_page_comes_and_goes_a_thousand_times(rt: HostRuntime) -> Result<(), Fail> {
 
 /// Appends a map of four pages on each side of a border, two unmaps of it that meet at a place, and what is there after
 /// each.
-fn push_parts(out: &mut Vec<u8>, border: u64, place: u64) -> Result<(), Fail> {
-    let va = border.wrapping_sub(4 * PAGE);
-    let len = 8 * PAGE;
+fn push_parts(out: &mut Vec<u8>, page: u64, border: u64, place: u64) -> Result<(), Fail> {
+    let half = page.wrapping_mul(4);
+    let va = border.wrapping_sub(half);
+    let len = half.wrapping_add(half);
     let before = place.wrapping_sub(va);
-    let (pa, prot) = (5 * PAGE, Prot::ReadWrite);
+    let prot = Prot::ReadWrite;
     for what in [
-        What::Map { va, pa, len, prot },
+        What::Map {
+            va,
+            pa: half,
+            len,
+            prot,
+        },
         What::Unmap { va, len: before },
         What::Lookup {
             va: place.wrapping_sub(1),
@@ -83,70 +87,60 @@ fn push_parts(out: &mut Vec<u8>, border: u64, place: u64) -> Result<(), Fail> {
     Ok(())
 }
 
-#[test]
-fn unmaps_end_around_each_border(rt: HostRuntime) -> Result<(), Fail> {
-    let mut lines = Vec::new(rt.alloc());
-    for border in [0x1_0000u64, 0x20_0000, 0x4000_0000, 0x20_4000_0000] {
-        push_parts(&mut lines, border, border.wrapping_sub(PAGE))?;
-        push_parts(&mut lines, border, border)?;
-        push_parts(&mut lines, border, border.wrapping_add(PAGE))?;
+/// Appends unmaps that end before, at and after each border of a format.
+fn push_borders(out: &mut Vec<u8>, format: FormatCase) -> Result<(), Fail> {
+    let page = 1 << (format.granule % 64);
+    for border in format.borders {
+        push_parts(out, page, border, border.wrapping_sub(page))?;
+        push_parts(out, page, border, border)?;
+        push_parts(out, page, border, border.wrapping_add(page))?;
     }
-    assert!(rt; agree_everywhere(rt.alloc(), &lines)?);
     Ok(())
 }
 
-/// Appends maps all over a space, and the unmap of its last page, of all of it, and of more.
+#[test]
+fn unmaps_end_around_each_border(rt: HostRuntime) -> Result<(), Fail> {
+    for format in FORMATS {
+        let mut lines = Vec::new(rt.alloc());
+        push_borders(&mut lines, format)?;
+        assert!(rt; agree_in(rt.alloc(), format, 60, &lines)?);
+        assert!(rt; agree_in(rt.alloc(), format, format.frames[2], &lines)?);
+    }
+    Ok(())
+}
+
+/// Appends the map of the last page of a space, and the unmap of it, of all of the space, and of more.
 fn push_whole(out: &mut Vec<u8>, format: FormatCase) -> Result<(), Fail> {
-    out.extend_from_slice(b"map 0x1ff000 0x0 0x2000 rw\nmap 0x40000000 0x40000000 0x80000000 r\n")?;
     let (pa, prot) = (0, Prot::ReadWrite);
+    let (va, end) = (format.last, format.end);
+    let len = end.wrapping_sub(va);
     for what in [
-        What::Map {
-            va: format.last,
-            pa,
-            len: PAGE,
-            prot,
-        },
+        What::Map { va, pa, len, prot },
         What::Unmap {
-            va: format.last,
-            len: 2 * PAGE,
+            va,
+            len: len.wrapping_add(len),
         },
-        What::Unmap {
-            va: format.end,
-            len: PAGE,
-        },
-        What::Unmap {
-            va: PAGE,
-            len: format.end,
-        },
-        What::Unmap {
-            va: 0,
-            len: format.end,
-        },
-        What::Lookup { va: format.last },
-        What::Map {
-            va: format.last,
-            pa,
-            len: PAGE,
-            prot,
-        },
-        What::Unmap {
-            va: format.last,
-            len: PAGE,
-        },
-        What::Unmap {
-            va: 0,
-            len: format.end,
-        },
+        What::Unmap { va: end, len },
+        What::Unmap { va: len, len: end },
+        What::Unmap { va: 0, len: end },
+        What::Lookup { va },
+        What::Map { va, pa, len, prot },
+        What::Unmap { va, len },
+        What::Unmap { va: 0, len: end },
     ] {
         push_line(out, what)?;
     }
     Ok(())
 }
 
+/// Maps of pages on both sides of a border, and of large blocks.
+const ALL_OVER: &[u8] = b"map 0x1ff000 0x0 0x2000 rw\nmap 0x40000000 0x40000000 0x80000000 r\n";
+
 #[test]
 fn a_whole_space_goes_at_once(rt: HostRuntime) -> Result<(), Fail> {
     for format in FORMATS {
-        let mut lines = Vec::new(rt.alloc());
+        let shift = format.granule.saturating_sub(12) % 64;
+        let mut lines = scaled_lines(rt.alloc(), ALL_OVER, shift)?;
         push_whole(&mut lines, format)?;
         assert!(rt; agree_in(rt.alloc(), format, 60, &lines)?);
     }
