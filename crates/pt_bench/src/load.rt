@@ -1,7 +1,7 @@
 //! Loads: requests by a rule, mapped one after another and then looked up.
 
 ghost use Rattle.std.specs.Prelude.{◌≡◌, ◌≤◌, IfOk, false};
-ghost use Rattle.pt_bench.specs.Ready.{IsReady};
+ghost use Rattle.pt_walk.specs.Walks.{Rests};
 
 use pt_format::{Format, Prot};
 use pt_map::map;
@@ -68,8 +68,8 @@ fn request_at(load: Load, number: u32) -> Request {
 /// Maps a request, and answers how many were mapped.
 fn map_one<F: Format>(plain: &mut Plain<F>, request: Request) -> u32
     requires fixed { F.layout.grows ≡ false }
-    requires ready { IsReady F.layout plain.old.view }
-    ensures ready { IsReady F.layout plain.new.view }
+    requires rest { Rests F.layout plain.old.view }
+    ensures rest { Rests F.layout plain.new.view }
     ensures one { result ≤ 1 }
 {
     let Request { va, pa, len } = request;
@@ -81,8 +81,8 @@ fn map_one<F: Format>(plain: &mut Plain<F>, request: Request) -> u32
 
 /// Looks a request's first byte up, and answers how many were found.
 fn find_one<F: Format>(plain: &mut Plain<F>, request: Request) -> u32
-    requires ready { IsReady F.layout plain.old.view }
-    ensures ready { IsReady F.layout plain.new.view }
+    requires rest { Rests F.layout plain.old.view }
+    ensures rest { Rests F.layout plain.new.view }
     ensures one { result ≤ 1 }
 {
     match lookup::<F, Plain<F>>(plain, request.va) {
@@ -93,8 +93,8 @@ fn find_one<F: Format>(plain: &mut Plain<F>, request: Request) -> u32
 
 fn map_all<F: Format>(plain: &mut Plain<F>, load: Load, count: u32) -> u32
     requires fixed { F.layout.grows ≡ false }
-    requires ready { IsReady F.layout plain.old.view }
-    ensures ready { IsReady F.layout plain.new.view }
+    requires rest { Rests F.layout plain.old.view }
+    ensures rest { Rests F.layout plain.new.view }
     ensures most { result ≤ count }
 {
     let mut mapped = 0;
@@ -105,8 +105,8 @@ fn map_all<F: Format>(plain: &mut Plain<F>, load: Load, count: u32) -> u32
 }
 
 fn find_all<F: Format>(plain: &mut Plain<F>, load: Load, count: u32) -> u32
-    requires ready { IsReady F.layout plain.old.view }
-    ensures ready { IsReady F.layout plain.new.view }
+    requires rest { Rests F.layout plain.old.view }
+    ensures rest { Rests F.layout plain.new.view }
     ensures most { result ≤ count }
 {
     let mut found = 0;

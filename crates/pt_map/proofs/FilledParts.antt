@@ -1,14 +1,15 @@
 -- Parts of an extent are filled one after the other, and each under an entry from the table below.
 use Rattle.std.proofs.Common.{◌≡◌, ℕ, ◌+◌, ◌-◌, ◌*◌, ◌/◌, ◌<◌, ◌≤◌, List, [], ◌∷◌, ◌++◌, length, false, inl, inr, refl, ap, sym, ◌∙◌, subst, arith, append_assoc, length-append}
-use Rattle.std.specs.Prelude.{◌⊎◌, ◌↔◌, map}
+use Rattle.std.specs.Prelude.{◌⊎◌, ◌↔◌, map, max}
 use Rattle.std.proofs.lemmas.Bool.{cases_Bool, cases_eq, false≢true}
 use Rattle.std.proofs.lemmas.List.{append-nil, map-append}
 use Rattle.std.proofs.Math.Nat.{div-mul-le_self}
 use Rattle.pt_model.specs.declared.position.Position.{Position}
+use Rattle.std.proofs.lemmas.List.Sums.{fold-append}
 use Rattle.pt_model.specs.declared.block.Block.{Block}
-use Rattle.pt_model.specs.Layout.{Layout, level_of_size, pages_of_table}
+use Rattle.pt_model.specs.Layout.{end_of, Layout, level_of_size, pages_of_table}
 use Rattle.pt_model.specs.Sets.{IsSorted, IsAmong}
-use Rattle.pt_model.specs.Tables.{all_needed, end_of_table, is_spine, position_over}
+use Rattle.pt_model.specs.Tables.{all_needed, end_of_table, is_spine, least_top, position_over, spine_position}
 use Rattle.pt_model.proofs.Positions.{sorted_add, added_are, among_one}
 use Rattle.pt_model.proofs.Quotients.{entry_is_table}
 use Rattle.pt_format.specs.Laws.{IsLayout}
@@ -24,7 +25,7 @@ use Rattle.pt_view.proofs.Paths.{front_snoc}
 use Rattle.pt_view.proofs.Members.{all_pieces_append, in_block, one_of_either}
 use Rattle.pt_view.specs.Calls.{left, pieces_at, with_table, all_but_last}
 use Rattle.pt_tile.specs.declared.extent.Extent.{Extent}
-use Rattle.pt_map.specs.Filled.{Filled, HasNoPiece, HasRoom, IsDeeper, IsTableIn, MayStore, MayGoInto, next_table}
+use Rattle.pt_map.specs.Filled.{Filled, HasNoPiece, HasRoom, IsDeeper, IsTableIn, MayStore, MayGoInto, next_table, top_with}
 use Rattle.pt_tile.proofs.FirstParts.{block_left, block_right, cut_part, cut_step, first_block, first_from, first_level, first_split, first_to, low_after, rest_part, tile_of}
 use Rattle.pt_map.proofs.NeededTables.{needs_append, needs_over, needs_page, over_needed, below_has, has_below}
 use Rattle.pt_map.proofs.PiecesAdded.{add_append, at_adds}
@@ -32,6 +33,7 @@ use Rattle.pt_map.proofs.FramesSpent.{room_part}
 use Rattle.pt_map.proofs.BlockWords.{past_elsewhere, more}
 use Rattle.pt_map.specs.Stands.{IsEntryExtent}
 use Rattle.pt_tile.specs.Extents.{IsExtent, IsFirstTo, IsOneBlock, first_size, tables_below, tables_of, tiles, up_to, from}
+use Rattle.pt_map.proofs.TopsOver.{top_below_root}
 use Rattle.pt_map.proofs.StandAfter.{Keeps, keeps_here, stands_inside, stands_moves}
 
 -- What blocks need, of which those of a part come last.
@@ -44,7 +46,7 @@ module _ (f : Layout) (x z : Extent) (xs : List Block) (split : tiles f x ≡ xs
 
 -- what was filled is kept
 pub filled_keeps : {f : Layout} {tells : Type 0} {v w : View} {blocks : List Block} {needed : List Position} → Filled f tells v w blocks needed → Keeps v w
-filled_keeps filled = record { range = filled.range; top = filled.top; prepared = filled.prepared; known = filled.known }
+filled_keeps filled = record { range = filled.range; prepared = filled.prepared; known = λ l low h. filled.known (spine_position l) h }
 
 -- Filling goes on.
 pub filled_none : (f : Layout) (tells : Type 0) (v : View) → Filled f tells v v [] []
@@ -70,7 +72,7 @@ filled_on f tells u v w xs ys ps qs all join a b = record {
   path = b.path ∙ a.path;
   prepared = b.prepared ∙ a.prepared;
   end = b.end ∙ a.end;
-  top = b.top ∙ a.top;
+  top = b.top ∙ (λ i. top_with f (a.range.levels i) (a.top i) ys) ∙ sym (fold-append (λ (t : ℕ) (b : Block). max t (least_top f u.levels (end_of b))) u.top xs ys);
   pieces = b.pieces ∙ ap (λ (old : List Piece). add_pieces f old (all_pieces f ys)) a.pieces ∙ sym (add_append f u.pieces (all_pieces f xs) (all_pieces f ys))
       ∙ ap (add_pieces f u.pieces) (sym (all_pieces_append f xs ys));
   tables = λ p.
@@ -115,7 +117,7 @@ module _ {f : Layout} (good : IsLayout f) {v : View} {x : Extent} {level : ℕ} 
     (low : first_size f y < f.index * (level + 1)) (among : (b : Block) → IsOneBlock (tiles f y) b → IsOneBlock (tiles f x) b) where
   pub may_part : MayStore f v y level
   may_part = record {
-    stands = stands_moves good may.stands part from_it to_it low (keeps_here v) refl;
+    stands = stands_moves good may.stands part from_it to_it low (keeps_here v) refl may.stands.high;
     no_piece = λ page high after before. may.no_piece page high (omega arith) (omega arith);
     no_table = λ p h c m. may.no_table p h c (among c m);
   }
@@ -170,7 +172,9 @@ module _ {f : Layout} (good : IsLayout f) {v : View} {x : Extent} {level : ℕ} 
         let extent = may.stands.at.extent in
         record {
           stands = stands_moves good may.stands (rest_part good extent to (omega arith) after) (omega arith) (let z : x.end ≤ x.end = omega arith in z)
-              (low_after good extent level to may.stands.at.range.under a after) (filled_keeps filled) filled.path;
+              (low_after good extent level to may.stands.at.range.under a after) (filled_keeps filled) filled.path
+              (let low = top_below_root f v.levels v.top (length v.path + level) x.end (tiles f first) may.stands.high may.stands.reach
+              (λ b m. let t = (tile_of good may_first.stands.at.extent b m).to in let e = ends in omega arith) in let top = filled.top in omega arith);
           no_piece = no_piece_rest;
           no_table = no_table_rest;
         }
@@ -268,8 +272,8 @@ module _ {f : Layout} (good : IsLayout f) {v : View} {x : Extent} {level : ℕ} 
 
     pub may_inside : MayStore f w x (level - 1)
     may_inside = record {
-      stands = stands_inside good may.stands entry (record { range = deeper.range; top = deeper.top; prepared = deeper.prepared; known = λ p h. (deeper.known p).1 (inr h) })
-          node refl deeper.path.1;
+      stands = stands_inside good may.stands entry (record { range = deeper.range; prepared = deeper.prepared; known = λ l low h. (deeper.known (spine_position l)).1 (inr h) })
+          node refl deeper.path.1 (let high = may.stands.high in let top = deeper.top in omega arith);
       no_piece = λ page higher low before. ap (pieces_at f (position_over f page higher) (entry_number f higher page)) deeper.pieces ∙ may.no_piece page higher low before;
       no_table = λ p h c m. elim (tables_deeper p h) [
         | inl old ↦ may.no_table p old c m
@@ -290,7 +294,7 @@ module _ {f : Layout} (good : IsLayout f) {v : View} {x : Extent} {level : ℕ} 
         path = ap all_but_last (filled.path ∙ deeper.path.1) ∙ front_snoc v.path node;
         prepared = filled.prepared ∙ deeper.prepared;
         end = filled.end ∙ deeper.end;
-        top = filled.top ∙ deeper.top;
+        top = filled.top ∙ (λ i. top_with f (deeper.range.levels i) (deeper.top i) (tiles f x));
         pieces = filled.pieces ∙ ap (λ (old : List Piece). add_pieces f old (all_pieces f (tiles f x))) deeper.pieces;
         tables = λ p.
             let spine : is_spine w.levels p ≡ is_spine v.levels p = ap (λ (n : ℕ). is_spine n p) deeper.range.levels in (

@@ -1,7 +1,7 @@
 -- The positions that a request needs and that a book lacks, against those that were found absent.
 use Rattle.std.proofs.lemmas.Bool.{not-true, not_from_false, and_from, and_parts, cases_lt, false_from_ne_true, false≢true, le-leb, lt-ltb, ltb-true, or_cases, or_left, or_right}
 use Rattle.std.proofs.Common.{◌≡◌, ◌⊎◌, ◌↔◌, ℕ, ◌+◌, ◌<◌, ◌≤◌, List, ◌++◌, true, false, inl, inr, ap, sym, subst, ◌∙◌, arith, length-append, ◌-◌}
-use Rattle.std.specs.Prelude.{IsTrue, ◌&&◌, not, nat_le, nat_lt, filter, length}
+use Rattle.std.specs.Prelude.{IsTrue, Bool, ◌&&◌, not, nat_le, nat_lt, filter, length}
 use Rattle.pt_model.specs.declared.block.Block.{Block}
 use Rattle.pt_model.specs.declared.position.Position.{Position}
 use Rattle.pt_model.specs.Layout.{Layout}
@@ -19,14 +19,16 @@ use Rattle.pt_map.specs.Absent.{IsMissing, is_shown}
 use Rattle.pt_map.specs.Answers.{lacking, unknown}
 use Rattle.pt_map.proofs.NeededTables.{needs_over, needs_page, needs_sorted, needed_same}
 use Rattle.pt_tile.specs.Extents.{IsExtent, tables_below, tables_of, tiles}
+use Rattle.pt_map.specs.Replaced.{is_replaced, replaced}
+use Rattle.pt_map.proofs.ReplacedTables.{needed_stays, two_parts}
 use Rattle.pt_map.specs.Stands.{IsOwnTable}
 use Rattle.pt_tile.proofs.Needed.{needed_below}
 
--- The lacking positions of an extent, over which the top reaches.
-module _ {f : Layout} (good : IsLayout f) (v : View) (blocks : List Block) {x : Extent} (part : IsExtent f x) (start : f.start ≤ v.levels) (few : v.levels ≤ f.levels) (top : least_top f v.levels x.end ≤ v.top) where
-  -- a needed position of the spine is up to the top
-  spine_linked : (p : Position) → IsAmong (all_needed f v.levels (tiles f x)) p → is_spine v.levels p ≡ true → is_linked v.levels (book_of v blocks) p ≡ true
-  spine_linked p needed spine =
+-- The lacking positions of an extent.
+module _ {f : Layout} (good : IsLayout f) (v : View) (blocks : List Block) {x : Extent} (part : IsExtent f x) (start : f.start ≤ v.levels) (few : v.levels ≤ f.levels) where
+  -- a needed position of the spine is up to the top, where this reaches over the extent
+  spine_linked : least_top f v.levels x.end ≤ v.top → (p : Position) → IsAmong (all_needed f v.levels (tiles f x)) p → is_spine v.levels p ≡ true → is_linked v.levels (book_of v blocks) p ≡ true
+  spine_linked top p needed spine =
       let some = part.some in let input = part.in_input in
       let ends : x.first + (x.end - x.first) ≡ x.end = omega arith in
       let e : least_top f v.levels (x.first + (x.end - x.first)) ≡ least_top f v.levels x.end = ap (least_top f v.levels) ends in
@@ -49,12 +51,12 @@ module _ {f : Layout} (good : IsLayout f) (v : View) (blocks : List Block) {x : 
   pub low_needed : (p : Position) → IsAmong (tables_of f x) p → p.level < f.levels
   low_needed p h = (needs_page good part p h).3
 
-  -- a lacking position is needed, no table of the book, and not of the spine
-  pub lacks : (p : Position) → IsAmong (lacking f v blocks x) p → IsAmong (tables_of f x) p × (¬ IsAmong v.tables p) × (is_spine v.levels p ≡ false)
-  lacks p h =
+  -- a lacking position is needed, no table of the book, and, where the top reaches over the extent, not of the spine
+  pub lacks : least_top f v.levels x.end ≤ v.top → (p : Position) → IsAmong (lacking f v blocks x) p → IsAmong (tables_of f x) p × (¬ IsAmong v.tables p) × (is_spine v.levels p ≡ false)
+  lacks top p h =
       let r = among_filtered (λ q. not (is_linked v.levels (book_of v blocks) q)) (all_needed f v.levels (tiles f x)) p h in
       let no : is_linked v.levels (book_of v blocks) p ≡ false = not-true (is_linked v.levels (book_of v blocks) p) r.1 in
-      let off : is_spine v.levels p ≡ false = false_from_ne_true (is_spine v.levels p) (λ spine. false≢true (sym no ∙ spine_linked p r.0 spine)) in
+      let off : is_spine v.levels p ≡ false = false_from_ne_true (is_spine v.levels p) (λ spine. false≢true (sym no ∙ spine_linked top p r.0 spine)) in
       ((same_off p off).0 r.0, (λ there. false≢true (sym no ∙ table_linked p there)), off)
 
   pub is_lacking : (p : Position) → IsAmong (tables_of f x) p → (¬ IsAmong v.tables p) → is_spine v.levels p ≡ false → IsAmong (lacking f v blocks x) p
@@ -94,11 +96,11 @@ module _ {f : Layout} (good : IsLayout f) (v : View) (blocks : List Block) {x : 
     absent_most = length_within absent (lacking f v blocks x) once absent_lacks
 
     -- over a lone holder they are the lacking ones: the tables over the part from the level on are linked
-    module _ (under : x.end ≤ end_of_table f (position_over f x.first level)) (owns : OwnsOver f v x.first level f.levels)
+    module _ (top : least_top f v.levels x.end ≤ v.top) (under : x.end ≤ end_of_table f (position_over f x.first level)) (owns : OwnsOver f v x.first level f.levels)
         (all : (p : Position) → IsAmong (tables_below f x level) p → IsAmong absent p ⊎ IsOwnTable v p) where
       lacks_absent : (p : Position) → IsAmong (lacking f v blocks x) p → IsAmong absent p
       lacks_absent p h =
-          let l = lacks p h in
+          let l = lacks top p h in
           elim (cases_lt p.level level) [
             | inl low ↦ elim (all p (among_passes (λ q. nat_lt q.level level) (tables_of f x) p l.0 (lt-ltb p.level level low))) [
               | inl here ↦ here
@@ -115,33 +117,36 @@ module _ {f : Layout} (good : IsLayout f) (v : View) (blocks : List Block) {x : 
       pub absent_all : length absent ≡ length (lacking f v blocks x)
       absent_all = same_length absent (lacking f v blocks x) once lacking_once absent_lacks lacks_absent
 
-  -- the tables after a map are those before and the lacking ones
-  pub tables_more : (tables : List Position) → IsSorted v.tables → IsSorted tables →
-      ((p : Position) → IsAmong tables p ↔ (IsAmong v.tables p ⊎ (IsAmong (tables_of f x) p × (is_spine v.levels p ≡ false)))) →
-      length tables ≡ length v.tables + length (lacking f v blocks x)
-  tables_more tables sorted sorted_after same =
+  -- the tables after a map are those before, but for those that blocks take the place of, and the lacking ones
+  pub tables_more : least_top f v.levels x.end ≤ v.top → (tables : List Position) → IsSorted v.tables → IsSorted tables →
+      ((p : Position) → IsAmong tables p ↔ ((IsAmong v.tables p × (is_replaced f (tiles f x) p ≡ false)) ⊎ (IsAmong (tables_of f x) p × (is_spine v.levels p ≡ false)))) →
+      length tables + length (replaced f v (tiles f x)) ≡ length v.tables + length (lacking f v blocks x)
+  tables_more top tables sorted sorted_after same =
       let more : List Position = lacking f v blocks x in
-      let once : Once (v.tables ++ more) = (λ p.
-      let sum = places_append p v.tables more in
-      let a = sorted_once v.tables sorted p in let b = lacking_once p in
+      let stays : Position → Bool = λ p. not (is_replaced f (tiles f x) p) in
+      let left : List Position = filter stays v.tables in
+      let once : Once (left ++ more) = (λ p.
+      let sum = places_append p left more in
+      let a = sorted_once left (sorted_filter stays v.tables sorted) p in let b = lacking_once p in
       elim (cases_lt 0 (places p more)) [
         | inr none ↦ omega arith
-        | inl some ↦ elim (cases_lt 0 (places p v.tables)) [
-          | inl both ↦ absurd ((lacks p some).1 both)
+        | inl some ↦ elim (cases_lt 0 (places p left)) [
+          | inl both ↦ absurd ((lacks top p some).1 (among_filtered stays v.tables p both).0)
           | inr none ↦ omega arith
         ]
       ]) in
-      let e : length tables ≡ length (v.tables ++ more) =
-      same_length tables (v.tables ++ more) (sorted_once tables sorted_after) once
+      let e : length tables ≡ length (left ++ more) =
+      same_length tables (left ++ more) (sorted_once tables sorted_after) once
       (λ p h. elim ((same p).0 h) [
-        | inl old ↦ among_left p v.tables more old
+        | inl old ↦ among_left p left more (among_passes stays v.tables p old.0 (ap not old.1))
         | inr new ↦ elim (cases_lt 0 (places p v.tables)) [
-          | inl old ↦ among_left p v.tables more old
-          | inr none ↦ among_right p v.tables more (is_lacking p new.0 (λ there. omega arith) new.1)
+          | inl old ↦ among_left p left more (among_passes stays v.tables p old (ap not (needed_stays good part p new.0)))
+          | inr none ↦ among_right p left more (is_lacking p new.0 (λ there. omega arith) new.1)
         ]
       ])
-      (λ p h. (same p).1 (elim (among_append p v.tables more h) [
-        | inl old ↦ inl old
-        | inr new ↦ (let l = lacks p new in inr (l.0, l.2))
+      (λ p h. (same p).1 (elim (among_append p left more h) [
+        | inl old ↦ (let r = among_filtered stays v.tables p old in inl (r.0, not-true (is_replaced f (tiles f x) p) r.1))
+        | inr new ↦ (let l = lacks top p new in inr (l.0, l.2))
       ])) in
-      let sum = length-append v.tables more in omega arith
+      let sum = length-append left more in
+      let parts = two_parts (is_replaced f (tiles f x)) v.tables in omega arith

@@ -2,9 +2,12 @@
 mod PiecesAdded
 mod BlocksAdded
 mod FirstMapped
--- Words of blocks, and the tables that blocks need.
+-- Words of blocks, the tables that blocks need, and those that they take the place of.
 mod BlockWords
+mod TopsOver
 mod NeededTables
+mod ReplacedTables
+mod PastRoot
 mod LackingTables
 -- The numbers of a request, and where the way to its extent stands.
 mod RequestNumbers
@@ -15,6 +18,8 @@ mod AbsentShown
 mod AbsentCounted
 mod SurveyFinds
 mod FramesDrawn
+-- Way is made: the tables that blocks take the place of are unlinked.
+mod WayMade
 -- The writing: tables that are linked, frames that are spent, and words.
 mod LinkedTables
 mod FramesSpent

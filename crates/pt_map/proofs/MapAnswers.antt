@@ -12,9 +12,9 @@ use Rattle.pt_view.specs.declared.view.Node.{Node}
 use Rattle.pt_view.specs.Views.{Aside, IsAtRest, book_of, linked_count}
 use Rattle.pt_walk.specs.Walks.{OwnsOver, Rests}
 use Rattle.pt_map.specs.declared.refused.MapRefused.{MapRefused}
-use Rattle.pt_map.specs.Answers.{Accounts, Answers, HasNoEmptyTable, IsMapped, IsRefused, IsShortOf, IsWanting, KeepsPurse, LinksAll, extent_at}
+use Rattle.pt_map.specs.Answers.{Accounts, Answers, IsMapped, IsRefused, IsShortOf, IsWanting, KeepsPurse, LinksAll, extent_at}
 use Rattle.pt_map.specs.Requests.{EndsBelow, IsOfNumbers, MappedBelow, IsRefusedByNumbers, IsRequested, occupied}
-use Rattle.pt_map.proofs.MapFromRoot.{Reached, owns_table, path_long, standing}
+use Rattle.pt_map.proofs.MapFromRoot.{Reached, owns_table, path_long, standing, top_over}
 use Rattle.pt_map.proofs.MapResults.{Standing, rested}
 use Rattle.pt_view.proofs.Loads.{loads_here}
 use Rattle.pt_map.proofs.MapFromTable.{refused_walked, linked_same}
@@ -46,13 +46,6 @@ module _ {f : Layout} (good : IsLayout f) {tells alone alone_d : Type 0} {v u d 
   here : Standing f tells v d h.reached.begun.may.rest.0 x level
   here = standing good h.reached h.reached.begun.may.rest.0 h.reached.begun.may.rest.1
 
-  full_below : (r : Result (Unit {0}) MapRefused) → EndsBelow f tells alone_d linked d w x level r → HasNoEmptyTable f w
-  full_below (Ok t) m = results.full_mapped good here m
-  full_below (Err e) m = results.full_refused good here m
-
-  pub full_after : HasNoEmptyTable f z
-  full_after = subst (HasNoEmptyTable f) (sym at_rest) (full_below r h.ends)
-
   is_mapped : MappedBelow f tells alone_d linked d w x level → (blocks : List Block) → IsAtRest f v blocks → IsMapped f tells v z blocks x
   is_mapped m blocks rest = subst (λ (y : View). IsMapped f tells v y blocks x) (sym at_rest) (results.is_mapped good (standing good h.reached blocks rest) m)
 
@@ -82,16 +75,16 @@ module _ {f : Layout} (good : IsLayout f) {tells alone alone_d : Type 0} {v u d 
   rests_after = rests_by r answers
 
   -- over a lone holder, which has set this aside
-  module _ (aside : Aside) (is : linked ≡ linked_count v aside) (a : alone_d) (owned : OwnsOver f u x.first level root) where
+  module _ (aside : Aside) (is : linked ≡ linked_count v aside) (lone : alone) (a : alone_d) (owned : OwnsOver f u x.first level root) where
     accounts_by : (r : Result (Unit {0}) MapRefused) → EndsBelow f tells alone_d linked d w x level r → Accounts f v z aside x r
     accounts_by (Ok t) m = λ blocks rest.
         subst (λ (y : View). LinksAll f v y aside blocks x) (sym at_rest)
-        (results.links_all good (standing good h.reached blocks rest) m aside is a h.reached.range.under (owns_table good h.reached owned))
+        (results.links_all good (standing good h.reached blocks rest) m aside is a (top_over good h.reached lone) h.reached.range.under (owns_table good h.reached owned))
     accounts_by (Err e) m =
         let s = results.stays_refused good here m h.reached.begun.may.rest.1.path in (
           ap (λ (y : View). linked_count y aside) at_rest ∙ linked_same v (rested w) aside s.range s.book,
           λ blocks rest. subst (λ (n : ℕ). IsShortOf f v n blocks x e) is
-              (results.is_short_of good (standing good h.reached blocks rest) alone_d linked w a h.reached.range.under (owns_table good h.reached owned) e m.cause),
+              (results.is_short_of good (standing good h.reached blocks rest) alone_d linked w a (top_over good h.reached lone) h.reached.range.under (owns_table good h.reached owned) e m.cause),
         )
 
     pub accounts : Accounts f v z aside x r

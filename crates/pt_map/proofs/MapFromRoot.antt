@@ -1,5 +1,5 @@
 -- The way of a map from the root down to the lowest linked table over its extent.
-use Rattle.std.proofs.Common.{◌≡◌, ℕ, ◌+◌, ◌-◌, ◌*◌, ◌/◌, ◌<◌, ◌≤◌, List, [], ◌∷◌, ◌++◌, true, false, inl, inr, refl, ap, sym, subst, ◌∙◌, arith, length-append}
+use Rattle.std.proofs.Common.{◌≡◌, ℕ, ◌+◌, ◌-◌, ◌*◌, ◌/◌, ◌%◌, ◌<◌, ◌≤◌, List, [], ◌∷◌, ◌++◌, true, false, inl, inr, refl, ap, sym, subst, ◌∙◌, arith, length-append}
 use Rattle.std.specs.Prelude.{IsTrue, Some, ◌==◌, nat_le, length}
 use Rattle.std.proofs.lemmas.Bool.{and_from, cases_lt, eq-eqb, le-leb}
 use Rattle.std.proofs.lemmas.List.Elements.{All-contains}
@@ -8,9 +8,10 @@ use Rattle.pt_model.specs.declared.block.Block.{Block}
 use Rattle.pt_model.specs.declared.position.Position.{Position}
 use Rattle.pt_model.specs.Layout.{Layout, input_pages, pages_of_table}
 use Rattle.pt_model.specs.Book.{IsLawful}
-use Rattle.pt_model.specs.Sets.{IsAmong}
+use Rattle.pt_model.specs.Sets.{IsAmong, places}
 use Rattle.pt_model.specs.Tables.{IsPosition, is_spine, least_top, position_over, spine_position, starting_top}
-use Rattle.pt_model.proofs.Tops.{table_mono}
+use Rattle.pt_model.proofs.Tops.{reaches_top, table_mono}
+use Rattle.pt_model.proofs.Positions.{sorted_once}
 use Rattle.pt_format.specs.Laws.{IsLayout}
 use Rattle.pt_tile.specs.declared.extent.Extent.{Extent}
 use Rattle.pt_tile.specs.Extents.{first_size}
@@ -29,9 +30,9 @@ use Rattle.pt_model.proofs.Quotients.{root_over}
 use Rattle.pt_walk.proofs.Ranges.{clear_root}
 use Rattle.pt_map.specs.Requests.{MayMap, MayMapBelow}
 use Rattle.pt_map.specs.Stands.{StandsAt}
-use Rattle.pt_map.proofs.NeededTables.{space_in_table, top_is}
+use Rattle.pt_map.proofs.NeededTables.{space_in_table}
 use Rattle.pt_map.proofs.MapResults.{Standing}
-use Rattle.pt_map.proofs.TablesAfter.{full_on, member_at, sorted_tables}
+use Rattle.pt_map.proofs.TablesAfter.{member_at, sorted_tables}
 
 -- a way down, and a further one from its end
 way_on : (f : Layout) (page level : ℕ) (xs ys : List Node) → IsWayDown f page level xs → IsWayDown f page (level - length xs) ys → IsWayDown f page level (xs ++ ys)
@@ -45,39 +46,38 @@ low_at index k level some low =
     let h = mul-le (k / index) index level index low (omega arith) in
     let c : level * index + index ≡ index * (level + 1) = omega arith in omega arith
 
--- An extent of a holder at rest may be mapped, in a space that doesn't grow, and the root was loaded.
+-- An extent of a holder at rest may be mapped, and the root was loaded, which reaches over the extent.
 pub record Begun (f : Layout) (tells alone : Type 0) (v u : View) (x : Extent) (root : ℕ) : Type 0 where
   pub may : MayMap f v x
-  pub fixed : f.grows ≡ false
+  pub reach : x.end ≤ pages_of_table f root
   pub rooted : Rooted f tells alone v root u
 
 module _ {f : Layout} (good : IsLayout f) {tells alone : Type 0} {v u : View} {x : Extent} {root : ℕ} (b : Begun f tells alone v u x root) where
   lawful_here : IsLawful f v.levels (book_of v b.may.rest.0)
   lawful_here = b.may.lawful b.may.rest.0 b.may.rest.1
 
-  -- such a space starts with all levels
-  all_levels : v.levels ≡ f.levels
-  all_levels =
-      let a = good.fixed b.fixed in let low = lawful_here.top_least in let high = lawful_here.top_below in
-      let some = good.start_low in let enough = b.may.levels in omega arith
+  -- the tables of the book are at multiples of their pages
+  aligned_here : (p : Position) → IsAmong v.tables p → p.base % pages_of_table f p.level ≡ 0
+  aligned_here p m = (All-contains (IsPosition f) v.tables p lawful_here.positions (member_at v.tables p m)).aligned
+
+  few_levels : v.levels ≤ f.levels
+  few_levels = let low = lawful_here.top_least in let high = lawful_here.top_below in omega arith
 
   owns_at_rest : OwnsAll f v
   owns_at_rest = owns_all f good v b.may.rest.0 b.may.levels b.may.rest.1 lawful_here
 
-  root_is : root ≡ f.levels - 1
-  root_is = let s = all_levels in let a = b.rooted.reaches in let r = b.rooted.legal in let t = lawful_here.top_least in omega arith
+  root_high : starting_top v.levels ≤ root
+  root_high = let reach = b.rooted.reaches in let low = lawful_here.top_least in omega arith
 
-  top_reaches : least_top f v.levels x.end ≤ v.top
-  top_reaches =
-      let e : least_top f v.levels x.end ≡ least_top f f.levels x.end = ap (λ (l : ℕ). least_top f l x.end) all_levels in
-      let top = top_is good x.end b.may.inside.extent.in_input in
-      let t = lawful_here.top_least in let s = all_levels in omega arith
+  root_reaches : least_top f v.levels x.end ≤ root
+  root_reaches = reaches_top f v.levels x.end root root_high b.reach
 
-  space_under : input_pages f ≤ pages_of_table f root
-  space_under = subst (λ (n : ℕ). input_pages f ≤ pages_of_table f n) (sym root_is) (space_in_table good)
+  -- a lone holder's top is the root's level
+  pub top_reaches : alone → least_top f v.levels x.end ≤ v.top
+  top_reaches a = let exact = b.rooted.exact a in let reach = root_reaches in omega arith
 
   first_under : x.first < pages_of_table f root
-  first_under = let some = b.may.inside.extent.some in let input = b.may.inside.extent.in_input in let wide = space_under in omega arith
+  first_under = let some = b.may.inside.extent.some in let reach = b.reach in omega arith
 
   spine_over : spine_position root ≡ position_over f x.first root
   spine_over = root_over f x.first root first_under
@@ -85,7 +85,7 @@ module _ {f : Layout} (good : IsLayout f) {tells alone : Type 0} {v u : View} {x
   pub range_root : IsOverRange f u x.first x.end root
   range_root =
       let base : 0 ≡ (position_over f x.first root).base = ap (λ (p : Position). p.base) spine_over in
-      let r = b.rooted in let wide = space_under in
+      let r = b.rooted in let wide = b.reach in
       let first = r.range.first in let count = r.range.count in
       let extent = b.may.inside.extent in let input = extent.in_input in let from = b.may.inside.from in let to = b.may.inside.to in
       record {
@@ -101,7 +101,7 @@ module _ {f : Layout} (good : IsLayout f) {tells alone : Type 0} {v u : View} {x
   pub low_size : first_size f x / f.index ≤ root
   low_size =
       let size = good.sizes_low (first_size f x) (size_greatest good b.may.inside.extent).legal.a_size in
-      let r = root_is in let high = good.start_high in omega arith
+      let r = root_high in let start = b.may.levels in omega arith
 
   pub owns_root : OwnsAll f u
   owns_root = owns_on f b.rooted.range b.rooted.book owns_at_rest
@@ -144,23 +144,26 @@ module _ {f : Layout} (good : IsLayout f) {tells alone : Type 0} {v u d : View} 
   stands =
       let b = h.begun in
       let some : 0 < f.index = omega (arith, good.index_is, good.granule_low) in
-      let w = to_table in let levels = w.range.levels in let same = w.book.top in let all = all_levels good b in
+      let w = to_table in let levels = w.range.levels in let same = w.book.top in
       let long = path_long in let many = h.down.so_many in let under = h.range.below in let reach = b.rooted.reaches in let legal = b.rooted.legal in
       let so_long : root + 1 ≡ length d.path + level = omega arith in
-      let top = top_reaches good b in
+      let top = root_reaches good b in
       record {
         at = record {
           extent = b.may.inside.extent;
           range = h.range;
           low = low_at f.index (first_size f x) level some h.low;
-          spine = λ l high low. absurd (omega arith);
+          spine = λ l high low. h.walked.known (spine_position l) ((b.rooted.known (spine_position l)).1 (inl (spine_known l (omega arith), (let many = h.down.so_many in omega arith))));
         };
         way = subst (λ (n : ℕ). IsWayDown f x.first n d.path) so_long way_down;
         high = omega arith;
         below = omega arith;
         none = w.prepared ∙ b.may.rest.1.prepared;
-        top = (let e : least_top f d.levels x.end ≡ least_top f v.levels x.end = ap (λ (l : ℕ). least_top f l x.end) levels in omega arith);
+        reach = (let e : least_top f d.levels x.end ≡ least_top f v.levels x.end = ap (λ (l : ℕ). least_top f l x.end) levels in omega arith);
       }
+    where
+      spine_known : (l : ℕ) → starting_top v.levels ≤ l → is_spine v.levels (spine_position l) ≡ true
+      spine_known l high = and_from (nat_le (starting_top v.levels) l) (0 == 0) (le-leb (starting_top v.levels) l high) (eq-eqb 0 0 refl)
 
   pub may_map : MayMapBelow f d x level
   may_map =
@@ -171,10 +174,16 @@ module _ {f : Layout} (good : IsLayout f) {tells alone : Type 0} {v u d : View} 
         stands = stands;
         owns = owns_on f w.range w.book (owns_at_rest good b);
         clear = h.clear;
-        positions = λ p m.
+        levels = (let l = b.may.levels in let e = w.range.levels in omega arith);
+        tables = λ p m.
             let there : IsAmong v.tables p = subst (λ (ps : List Position). IsAmong ps p) w.book.tables m in
-            All-contains (IsPosition f) v.tables p lawful.positions (member_at v.tables p there);
-        full = full_on f v d w.book b.may.full;
+            record {
+              off_spine = subst (λ (l : ℕ). is_spine l p ≡ false) (sym w.range.levels) (All-contains (λ q. is_spine v.levels q ≡ false) v.tables p lawful.off_spine (member_at v.tables p there));
+              aligned = aligned_here good b p there;
+            };
+        once = λ p.
+            let s : places p v.tables ≤ 1 = sorted_once v.tables (sorted_tables v.tables lawful.tables_in_order) p in
+            let e : places p d.tables ≡ places p v.tables = ap (places p) w.book.tables in omega arith;
       }
 
   pub standing : (blocks : List Block) → IsAtRest f v blocks → Standing f tells v d blocks x level
@@ -186,14 +195,16 @@ module _ {f : Layout} (good : IsLayout f) {tells alone : Type 0} {v u d : View} 
         lawful = lawful;
         owns = owns_at_rest good b;
         sorted = sorted_tables v.tables lawful.tables_in_order;
-        full = b.may.full;
+        aligned = aligned_here good b;
         extent = b.may.inside.extent;
         start = b.may.levels;
-        few = (let s = all_levels good b in omega arith);
-        top = top_reaches good b;
+        few = few_levels good b;
         below = h.range.below;
         walked = to_table;
       }
+
+  pub top_over : alone → least_top f v.levels x.end ≤ v.top
+  top_over = top_reaches good h.begun
 
   -- the tables over the extent are linked, where nobody else changes any
   pub owns_table : OwnsOver f u x.first level root → OwnsOver f d x.first level f.levels
@@ -209,3 +220,12 @@ module _ {f : Layout} (good : IsLayout f) {tells alone : Type 0} {v u d : View} 
         let spine : is_spine d.levels (spine_position j) ≡ true = and_from (nat_le (starting_top d.levels) j) (0 == 0) (le-leb (starting_top d.levels) j (omega arith)) (eq-eqb 0 0 refl) in
         subst (λ (p : Position). is_spine d.levels p ≡ true) (sym (over_first f x.first j (omega arith))) spine)
   ]
+
+-- the root of a space that doesn't grow has all levels
+pub fixed_reach : {f : Layout} (good : IsLayout f) {tells alone : Type 0} {v u : View} {x : Extent} {root : ℕ} → MayMap f v x → f.grows ≡ false → Rooted f tells alone v root u → x.end ≤ pages_of_table f root
+fixed_reach {f} good {v = v} {x = x} {root = root} may fixed rooted =
+    let lawful = may.lawful may.rest.0 may.rest.1 in
+    let all = good.fixed fixed in let low = lawful.top_least in let reach = rooted.reaches in let legal = rooted.legal in let enough = may.levels in
+    let is : root ≡ f.levels - 1 = omega arith in
+    let wide : input_pages f ≤ pages_of_table f root = subst (λ (n : ℕ). input_pages f ≤ pages_of_table f n) (sym is) (space_in_table good) in
+    let input = may.inside.extent.in_input in omega arith

@@ -1,16 +1,13 @@
--- The steps of a map from a table on down, taken together: the look, the draw and the writing.
-use Rattle.std.proofs.Common.{◌≡◌, ℕ, ◌+◌, ◌*◌, ◌/◌, ◌%◌, ◌^◌, ◌<◌, ◌≤◌, List, [], ◌∷◌, ◌++◌, Bool, inl, inr, refl, ap, sym, subst, ◌∙◌, arith, append_assoc}
-use Rattle.std.specs.Prelude.{IsTrue, ◌&&◌, ◌==◌, length, map}
-use Rattle.std.proofs.lemmas.Bool.{cases_Bool, cases_lt}
+-- The steps of a map from a table on down, taken together: the look, the draw, the making of way and the writing.
+use Rattle.std.proofs.Common.{◌≡◌, ◌↔◌, ℕ, ◌+◌, ◌<◌, ◌≤◌, List, [], ◌∷◌, ◌++◌, Bool, false, length-append, inl, inr, refl, ap, sym, subst, ◌∙◌, arith, append_assoc}
+use Rattle.std.specs.Prelude.{IsTrue, ◌&&◌, ◌==◌, filter, length, map, not}
+use Rattle.std.proofs.lemmas.Bool.{cases_Bool, not-true}
 use Rattle.std.proofs.lemmas.List.{append-nil}
-use Rattle.std.proofs.lemmas.Nat.{mul-le, shr_split}
-use Rattle.std.proofs.Math.Nat.{div-mul-le_self, mul-le-mul_left}
 use Rattle.pt_model.specs.declared.position.Position.{Position}
 use Rattle.pt_model.specs.Layout.{Layout}
 use Rattle.pt_model.specs.Pages.{byte_at}
-use Rattle.pt_model.specs.Sets.{IsSorted, IsAmong, one_if}
-use Rattle.pt_model.specs.Tables.{is_same, position_over, levels_between, starting_top}
-use Rattle.pt_tile.proofs.Begun.{aligned_sum, coarse_is_fine}
+use Rattle.pt_model.specs.Sets.{IsSorted, IsAmong, one_if, places}
+use Rattle.pt_model.specs.Tables.{is_same, is_spine, position_over, levels_between, spine_position, starting_top}
 use Rattle.pt_format.specs.Laws.{IsLayout}
 use Rattle.pt_view.specs.declared.view.View.{View}
 use Rattle.pt_view.specs.declared.view.Piece.{Piece}
@@ -22,7 +19,7 @@ use Rattle.pt_view.specs.Pieces.{IsOneOf, add_pieces, all_pieces, number_of, tab
 use Rattle.pt_view.specs.Loads.{AddsAbsences, ByLoads}
 use Rattle.pt_view.proofs.Stays.{book_on, range_on}
 use Rattle.pt_view.proofs.Pieces.{has_page_here}
-use Rattle.pt_walk.proofs.Descent.{own_piece}
+use Rattle.pt_walk.proofs.Descent.{own_piece, owns_on}
 use Rattle.pt_view.specs.Calls.{lowest, pieces_at}
 use Rattle.pt_view.specs.Views.{Aside, SameBook, SameRange, linked_count}
 use Rattle.pt_walk.specs.Walks.{IsFree, IsLowest, OwnsAll}
@@ -30,12 +27,17 @@ use Rattle.pt_tile.specs.declared.extent.Extent.{Extent}
 use Rattle.pt_map.specs.declared.refused.MapRefused.{MapRefused}
 use Rattle.pt_map.specs.Absent.{Counted, is_shown}
 use Rattle.pt_map.specs.Answers.{FindsEach, IsRefused}
-use Rattle.pt_map.specs.Filled.{HasNoPiece, MayStore, Fills, MayFill, HasRoom}
+use Rattle.pt_map.specs.Filled.{HasNoPiece, MayStore, Fills, MayFill, HasRoom, top_with}
 use Rattle.pt_map.specs.Requests.{Gathered, IsLackOf, LacksFrames, MappedBelow, MayMapBelow, HasFrames, RefusedBelow}
-use Rattle.pt_map.proofs.TablesAfter.{gains_on, no_table_in}
-use Rattle.pt_tile.specs.Extents.{tables_below, tables_of, tiles}
+use Rattle.pt_map.specs.Replaced.{HasNoneReplaced, MayMakeWay, UnlinksReplaced, is_replaced, replaced}
+use Rattle.pt_map.specs.Stands.{StandsAt}
+use Rattle.pt_map.proofs.NeededTables.{has_below}
+use Rattle.pt_map.proofs.ReplacedTables.{needed_stays, replaced_none, two_parts}
+use Rattle.pt_map.proofs.WayMade.{unlinks_keep}
+use Rattle.pt_model.proofs.Positions.{among_filtered, among_passes, sorted_filter}
+use Rattle.pt_view.proofs.Loads.{absences_on}
+use Rattle.pt_tile.specs.Extents.{tables_below, tiles}
 use Rattle.pt_map.proofs.StandAfter.{stands_moves}
-use Rattle.pt_tile.proofs.FirstParts.{tile_of}
 use Rattle.pt_map.proofs.AbsentCounted.{shown_left}
 use Rattle.pt_map.specs.declared.refused.MapRefused.TheVariants as refused
 
@@ -57,30 +59,11 @@ no_piece_over f good v first end owns free = λ page level from to.
     let here = has_page_here good (own_piece (owns y m)) page level one in
     free page from to y m here.1)
 
--- no piece stands over a free range, for a view of the same book either
-pub no_piece_kept : (f : Layout) → IsLayout f → (v w : View) (first end : ℕ) → OwnsAll f v → SameBook v w → IsFree f v first end → HasNoPiece f w first end
-no_piece_kept f good v w first end owns book free =
-    subst (λ (ps : List Piece). (page level : ℕ) → first ≤ page → page < end → pieces_at f (position_over f page level) (entry_number f level page) ps ≡ 0) (sym book.pieces)
+-- no piece stands over a free range, for a view of the same pieces either
+pub no_piece_kept : (f : Layout) → IsLayout f → (v w : View) (first end : ℕ) → OwnsAll f v → w.pieces ≡ v.pieces → IsFree f v first end → HasNoPiece f w first end
+no_piece_kept f good v w first end owns pieces free =
+    subst (λ (ps : List Piece). (page level : ℕ) → first ≤ page → page < end → pieces_at f (position_over f page level) (entry_number f level page) ps ≡ 0) (sym pieces)
     (no_piece_over f good v first end owns free)
-
--- a table that begins in a block, below the one in which the block stands, ends in it
-table_ends : (index level log2 first base : ℕ) → 0 < index → level < log2 / index → first % 2 ^ log2 ≡ 0 → base % 2 ^ (index * (level + 1)) ≡ 0 → base < first + 2 ^ log2 →
-    base + 2 ^ (index * (level + 1)) ≤ first + 2 ^ log2
-table_ends index level log2 first base some low aligned whole within =
-    let j : ℕ = index * (level + 1) in
-    let fits : j ≤ log2 = (
-    let more : level + 1 ≤ log2 / index = omega arith in
-    let a : index * (level + 1) ≤ index * (log2 / index) = mul-le-mul_left index more in
-    let c : log2 / index * index ≡ index * (log2 / index) = omega arith in
-    omega (arith, a, c, div-mul-le_self log2 index)) in
-    let end : ℕ = first + 2 ^ log2 in
-    let ends : end % 2 ^ j ≡ 0 = aligned_sum j log2 first fits (coarse_is_fine j log2 first fits aligned) in
-    let split = shr_split base j in
-    let split_end = shr_split end j in
-    elim (cases_lt (base / 2 ^ j) (end / 2 ^ j)) [
-      | inl less ↦ (let h = mul-le (base / 2 ^ j + 1) (2 ^ j) (end / 2 ^ j) (2 ^ j) (omega arith) (omega arith) in omega arith)
-      | inr more ↦ absurd (let h = mul-le (end / 2 ^ j) (2 ^ j) (base / 2 ^ j) (2 ^ j) more (omega arith) in omega arith)
-    ]
 
 -- what leaves the book leaves the count of linked positions
 pub linked_same : (v w : View) (aside : Aside) → SameRange v w → SameBook v w → linked_count w aside ≡ linked_count v aside
@@ -135,21 +118,54 @@ module _ {f : Layout} (good : IsLayout f) {tells : Type 0} {v c g : View} {x : E
   taken_kept : tells → (lost : List ℕ) × (g.taken ≡ v.taken ++ lost)
   taken_kept t = let r = gathered.taken t in (r.0, r.1 ∙ ap (λ (xs : List ℕ). xs ++ r.0) (walked.taken t))
 
-  -- the words of the extent may be stored
-  pub may_store : IsFree f v x.first x.end → MayStore f g x level
-  may_store free =
-      let some : 0 < f.index = omega (arith, good.index_is, good.granule_low) in
-      record {
-        stands = stands_moves good may.stands may.stands.at.extent (let e : x.first ≤ x.first = omega arith in e) (let e : x.end ≤ x.end = omega arith in e) may.stands.at.low
-            (record { range = range_kept; top = book_kept.top; prepared = prepared_kept; known = known_kept }) path_kept;
-        no_piece = no_piece_kept f good v g x.first x.end may.owns book_kept free;
-        no_table = λ p m b here lies.
-            let there : IsAmong v.tables p = subst (λ (ps : List Position). IsAmong ps p) book_kept.tables m in
-            let t = tile_of good may.stands.at.extent b here in
-            let ends = table_ends f.index p.level b.log2 b.first p.base some lies.0 t.legal.first_aligned (may.positions p there).aligned lies.2 in
-            let from = t.from in let to = t.to in let low = lies.1 in
-            no_table_in f v x.first x.end may.full free p there (omega arith) (omega arith);
-      }
+  stands_kept : StandsAt f g x level
+  stands_kept =
+      stands_moves good may.stands may.stands.at.extent (let e : x.first ≤ x.first = omega arith in e) (let e : x.end ≤ x.end = omega arith in e) may.stands.at.low
+      (record { range = range_kept; prepared = prepared_kept; known = λ l low h. known_kept (spine_position l) h }) path_kept
+      (let t = book_kept.top in let h = may.stands.high in omega arith)
+
+  -- way may be made for the extent
+  pub may_make : IsFree f v x.first x.end → MayMakeWay f g x level
+  may_make free = record {
+    at = stands_kept.at;
+    levels = (let l = may.levels in let e = range_kept.levels in omega arith);
+    empty = record {
+      owns = owns_on f range_kept book_kept may.owns;
+      free = λ page low high y m. free page low high y (subst (λ (ps : List Piece). IsOneOf ps y) book_kept.pieces m);
+      tables = λ p m.
+          let t = may.tables p (subst (λ (ps : List Position). IsAmong ps p) book_kept.tables m) in
+          record { off_spine = subst (λ (l : ℕ). is_spine l p ≡ false) (sym range_kept.levels) t.off_spine; aligned = t.aligned };
+      once = λ p. subst (λ (ps : List Position). places p ps < 2) (sym book_kept.tables) (may.once p);
+      levels_are = refl;
+      none = prepared_kept ∙ may.stands.none;
+    };
+  }
+
+  pub none_kept : HasNoneReplaced f v (tiles f x) → HasNoneReplaced f g (tiles f x)
+  none_kept none p m = none p (subst (λ (ps : List Position). IsAmong ps p) book_kept.tables m)
+
+  -- Way was made, from view g to view z.
+  module _ {alone_g : Type 0} {z : View} (free : IsFree f v x.first x.end) (made : UnlinksReplaced f tells alone_g (tiles f x) g z) where
+    left_tables : (p : Position) → IsAmong z.tables p ↔ (IsAmong v.tables p × (is_replaced f (tiles f x) p ≡ false))
+    left_tables p = (
+      (λ m.
+          let r = among_filtered (λ q. not (is_replaced f (tiles f x) q)) g.tables p (subst (λ (ps : List Position). IsAmong ps p) made.tables m) in
+          (subst (λ (ps : List Position). IsAmong ps p) book_kept.tables r.0, not-true (is_replaced f (tiles f x) p) r.1)),
+      (λ h.
+          subst (λ (ps : List Position). IsAmong ps p) (sym made.tables)
+          (among_passes (λ q. not (is_replaced f (tiles f x) q)) g.tables p (subst (λ (ps : List Position). IsAmong ps p) (sym book_kept.tables) h.0) (ap not h.1))),
+    )
+
+    -- the words of the extent may be stored
+    pub may_store : MayStore f z x level
+    may_store =
+        let few : f.start ≤ g.levels = (let l = may.levels in let e = range_kept.levels in omega arith) in
+        record {
+          stands = stands_moves good stands_kept may.stands.at.extent (let e : x.first ≤ x.first = omega arith in e) (let e : x.end ≤ x.end = omega arith in e) may.stands.at.low
+              (unlinks_keep good may.stands.at.extent few made) made.path (let t = made.top in let h = stands_kept.high in omega arith);
+          no_piece = no_piece_kept f good v z x.first x.end may.owns (made.pieces ∙ book_kept.pieces) free;
+          no_table = λ p m b here. replaced_none f p (tiles f x) ((left_tables p).0 m).1 b here;
+        }
 
   module _ {alone : Type 0} {cap : ℕ} (n : Counted f tells alone v c (tables_below f x level) cap absent) (free : IsFree f v x.first x.end) (is : cap ≡ v.frames + 1)
       {alone_c : Type 0} {old new : Aside} (to_c : alone → alone_c) (aside : new ≡ old) where
@@ -221,55 +237,85 @@ module _ {f : Layout} (good : IsLayout f) {tells : Type 0} {v c g : View} {x : E
         }
 
     -- there are frames for all absent tables
-    module _ (has : HasFrames alone_c (linked_count c new) c g absent) where
+    module _ (has : HasFrames alone_c (linked_count c new) c g absent) {alone_g : Type 0} (to_g : alone → alone_g) {z : View} (made : UnlinksReplaced f tells alone_g (tiles f x) g z) where
       so_many : length n.absent ≡ absent
       so_many = let e = n.count_is in let h = has.frames in let s = walked.range.frames in omega arith
 
-      room : HasRoom g (tables_below f x level) n.absent
+      longer : length z.purse ≡ length made.purse.0 + length g.purse
+      longer = ap length made.purse.1 ∙ length-append made.purse.0 g.purse
+
+      room : HasRoom z (tables_below f x level) n.absent
       room = record {
-        each = λ p h. elim (n.others (let h = has.frames in let s = walked.range.frames in omega arith) p h) [ inl a ↦ inr a | inr k ↦ inl ((gathered.keeps.known p).1 k) ];
-        frames = (let e = so_many in let h = has.held in omega arith);
+        each = λ p h. elim (n.others (let h = has.frames in let s = walked.range.frames in omega arith) p h) [
+          | inl a ↦ inr a
+          | inr k ↦ inl (made.known p ((gathered.keeps.known p).1 k) (needed_stays good may.stands.at.extent p (has_below f level x p h).0))
+        ];
+        frames = (let e = so_many in let h = has.held in let l = longer in omega arith);
       }
 
-      pub may_fill : MayFill f g x level
+      pub may_fill : MayFill f z x level
       may_fill = record {
-        store = may_store free;
+        store = may_store free made;
         lacking = n.absent;
         room = room;
       }
 
-      pub mapped_below : {w : View} → Fills f tells g w x level → MappedBelow f tells alone (linked_count v old) v w x level
+      -- the frames of the tables that blocks take the place of are those freed
+      freed_all : alone → length made.purse.0 ≡ length (replaced f v (tiles f x))
+      freed_all a =
+          let count : length z.purse + length z.tables ≡ length g.purse + length g.tables = made.count (to_g a) in
+          let l = longer in
+          let left : length z.tables ≡ length (filter (λ p. not (is_replaced f (tiles f x) p)) v.tables) =
+          ap length made.tables ∙ ap (λ (ps : List Position). length (filter (λ p. not (is_replaced f (tiles f x) p)) ps)) book_kept.tables in
+          let all : length g.tables ≡ length v.tables = ap length book_kept.tables in
+          let parts = two_parts (is_replaced f (tiles f x)) v.tables in omega arith
+
+      pub mapped_below : {w : View} → Fills f tells z w x level → MappedBelow f tells alone (linked_count v old) v w x level
       mapped_below {w = w} fills =
           let filled = fills.filled in
           let spends = (fills.spends n.absent room).1 in
           let less : absent < cap = (let h = has.frames in let s = walked.range.frames in omega arith) in
           let purse : length c.purse ≡ length v.purse = ap length walked.purse.purse in
           let many = so_many in let frames = walked.range.frames in
+          let range : SameRange v z = range_on range_kept made.range in
+          let drawn : g.purse ≡ gathered.drawn ++ v.purse = gathered.purse ∙ ap (λ (xs : List ℕ). gathered.drawn ++ xs) walked.purse.purse in
           record {
             free = free;
             absent = n.absent;
             are_absent = record { once = n.once; missing = n.missing; all = λ a p h. n.all a less p h };
+            freed = made.purse.0;
             drawn = gathered.drawn;
             used = spends.used;
-            purse = ap (λ (xs : List ℕ). gathered.drawn ++ xs) (sym walked.purse.purse) ∙ sym gathered.purse ∙ spends.purse;
+            purse = ap (λ (xs : List ℕ). made.purse.0 ++ xs) (sym drawn) ∙ sym made.purse.1 ∙ spends.purse;
+            back = freed_all;
             spared = (let s = gathered.spared in omega arith);
             few = (let s = spends.few in omega arith);
             capped = (let h = has.frames in omega arith);
             room = λ a. (let h = has.few (to_c a) in let enough = has.held in let s = same in omega arith);
-            range = range_on range_kept filled.range;
-            path = filled.path ∙ path_kept;
-            prepared = filled.prepared ∙ prepared_kept;
-            end = filled.end ∙ gathered.place.end ∙ walked.purse.end;
-            top = filled.top ∙ book_kept.top;
-            pieces = filled.pieces ∙ ap (λ (ps : List Piece). add_pieces f ps (all_pieces f (tiles f x))) book_kept.pieces;
-            tables = λ p. gains_on v g w.tables (tables_of f x) p book_kept.tables range_kept.levels (filled.tables p);
-            in_order = λ s. filled.in_order (subst (λ (ps : List Position). IsSorted ps) (sym book_kept.tables) s);
-            busy = λ frame h. (filled.busy frame).1 (busy_kept frame h);
-            known = λ p h. filled.known p (known_kept p h);
+            range = range_on range filled.range;
+            path = filled.path ∙ made.path ∙ path_kept;
+            prepared = filled.prepared ∙ made.prepared ∙ prepared_kept;
+            end = filled.end ∙ made.end ∙ gathered.place.end ∙ walked.purse.end;
+            top = filled.top ∙ (λ i. top_with f (range.levels i) ((made.top ∙ book_kept.top) i) (tiles f x));
+            pieces = filled.pieces ∙ ap (λ (ps : List Piece). add_pieces f ps (all_pieces f (tiles f x))) (made.pieces ∙ book_kept.pieces);
+            tables = λ p. (
+              (λ m. elim ((filled.tables p).0 m) [
+                | inl old ↦ inl ((left_tables free made p).0 old)
+                | inr new ↦ inr (new.0, subst (λ (l : ℕ). is_spine l p ≡ false) range.levels new.1)
+              ]),
+              (λ h. (filled.tables p).1 (elim h [
+                | inl old ↦ inl ((left_tables free made p).1 old)
+                | inr new ↦ inr (new.0, subst (λ (l : ℕ). is_spine l p ≡ false) (sym range.levels) new.1)
+              ])),
+            );
+            in_order = λ s. filled.in_order (subst (λ (ps : List Position). IsSorted ps) (sym made.tables)
+                (sorted_filter (λ q. not (is_replaced f (tiles f x) q)) g.tables (subst (λ (ps : List Position). IsSorted ps) (sym book_kept.tables) s)));
+            busy = λ frame h. (filled.busy frame).1 ((made.busy frame).1 (busy_kept frame h));
+            known = λ p h stays. filled.known p (made.known p (known_kept p h) stays);
             shown = λ t.
                 let d = told_on t in
-                let more : AddsAbsences g w = filled.absent t in
+                let more : AddsAbsences g w = absences_on (made.absent t) (filled.absent t) in
                 (d.0 ++ more.facts, more.are ∙ ap (λ (xs : List Absence). xs ++ more.facts) d.1 ∙ append_assoc v.absent d.0 more.facts, λ p h. shown_left f d.0 more.facts p (d.2 p h));
-            taken = λ t. let r = taken_kept t in (r.0, (filled.told t).0 ∙ r.1);
-            stores = λ t. (filled.told t).1 ∙ ap (λ (xs : List Change). xs ++ map Written (all_pieces f (tiles f x))) (gathered.stores t ∙ walked.stores t);
+            taken = λ t. let r = taken_kept t in (r.0, (filled.told t).0 ∙ made.taken t ∙ r.1);
+            stores = λ t. (filled.told t).1 ∙ ap (λ (xs : List Change). xs ++ map Written (all_pieces f (tiles f x))) (made.stores t ∙ gathered.stores t ∙ walked.stores t);
           }

@@ -1,10 +1,10 @@
 -- What a map answers, from what it did below the table that is over all of its part.
-use Rattle.std.proofs.Common.{◌≡◌, ◌⊎◌, ◌↔◌, ℕ, ◌+◌, ◌-◌, ◌<◌, ◌≤◌, List, [], ◌++◌, false, inl, inr, refl, ap, sym, subst, ◌∙◌, arith, append_assoc}
-use Rattle.std.specs.Prelude.{IsTrue, Some, None, length, map, min, option_map}
+use Rattle.std.proofs.Common.{◌≡◌, ◌⊎◌, ◌↔◌, ℕ, ◌+◌, ◌-◌, ◌<◌, ◌≤◌, List, [], ◌++◌, false, inl, inr, refl, ap, sym, subst, ◌∙◌, arith, append_assoc, length-append, ◌%◌}
+use Rattle.std.specs.Prelude.{IsTrue, Some, None, filter, length, map, min, option_map}
 use Rattle.std.proofs.lemmas.Bool.{cases_lt}
 use Rattle.pt_model.specs.declared.block.Block.{Block}
 use Rattle.pt_model.specs.declared.position.Position.{Position}
-use Rattle.pt_model.specs.Layout.{Layout}
+use Rattle.pt_model.specs.Layout.{Layout, pages_of_table}
 use Rattle.pt_model.specs.Book.{IsLawful, Occupied, lowest_mapped}
 use Rattle.pt_model.specs.Pages.{byte_at}
 use Rattle.pt_model.specs.Sets.{IsSorted, IsAmong, places}
@@ -26,13 +26,16 @@ use Rattle.pt_walk.proofs.Ranges.{free_on, lowest_on}
 use Rattle.pt_tile.specs.declared.extent.Extent.{Extent}
 use Rattle.pt_map.specs.declared.refused.MapRefused.{MapRefused}
 use Rattle.pt_map.specs.Absent.{Counted, IsMissing, is_shown}
-use Rattle.pt_map.specs.Answers.{AddsToHistory, FindsAbsent, FindsEach, HasNoEmptyTable, IsMapped, IsRefused, IsShortOf, IsWanting, KeepsPurse, WantsFrames, book_with, lacking, refusal_of, unknown, LinksAll}
+use Rattle.pt_map.specs.Answers.{AddsToHistory, FindsAbsent, FindsEach, IsMapped, IsRefused, IsShortOf, IsWanting, KeepsPurse, WantsFrames, book_with, lacking, refusal_of, unknown, LinksAll}
 use Rattle.pt_map.specs.Requests.{LacksFrames, MappedBelow, HasCause, RefusedBelow, occupied}
 use Rattle.pt_map.proofs.AbsentCounted.{own_on, shown_right}
 use Rattle.pt_map.proofs.BlocksAdded.{Apart, adds_pieces, in_order_from}
 use Rattle.pt_map.proofs.FirstMapped.{first_mapped, free_apart, none_mapped}
 use Rattle.pt_map.proofs.LackingTables.{absent_all, absent_few, absent_most, absent_shown, tables_more}
-use Rattle.pt_map.proofs.TablesAfter.{full_after, full_on, gains_on, tables_after}
+use Rattle.pt_map.specs.Replaced.{is_replaced, replaced}
+use Rattle.pt_map.specs.Filled.{top_with}
+use Rattle.pt_map.proofs.TopsOver.{top_of_tiling}
+use Rattle.pt_map.proofs.TablesAfter.{tables_after}
 use Rattle.pt_tile.specs.Extents.{IsExtent, tables_below, tables_of, tiles}
 use Rattle.pt_map.specs.Stands.{IsOwnTable}
 use Rattle.pt_tile.proofs.FirstSizes.{extent_tiling}
@@ -54,11 +57,10 @@ pub record Standing (f : Layout) (tells : Type 0) (v d : View) (blocks : List Bl
   pub lawful : IsLawful f v.levels (book_of v blocks)
   pub owns : OwnsAll f v
   pub sorted : IsSorted v.tables
-  pub full : HasNoEmptyTable f v
+  pub aligned : (p : Position) → IsAmong v.tables p → p.base % pages_of_table f p.level ≡ 0
   pub extent : IsExtent f x
   pub start : f.start ≤ v.levels
   pub few : v.levels ≤ f.levels
-  pub top : least_top f v.levels x.end ≤ v.top
   pub below : level < f.levels
   pub walked : ByLoads tells v d
 
@@ -87,11 +89,11 @@ module _ {f : Layout} (good : IsLayout f) {tells : Type 0} {v d : View} {blocks 
   none_there free = none_mapped good stand.rest x.first x.end stand.extent.some (free_here free)
 
   -- over a lone holder the positions found absent are the lacking ones
-  all_here : (alone : Type 0) → alone → x.end ≤ end_of_table f (position_over f x.first level) → OwnsOver f d x.first level f.levels → (absent : List Position) →
+  all_here : (alone : Type 0) → alone → least_top f v.levels x.end ≤ v.top → x.end ≤ end_of_table f (position_over f x.first level) → OwnsOver f d x.first level f.levels → (absent : List Position) →
       ((p : Position) → places p absent ≤ 1) → ((p : Position) → IsAmong absent p → IsMissing d (tables_below f x level) p) →
       ((p : Position) → IsAmong (tables_below f x level) p → IsAmong absent p ⊎ IsOwnTable d p) → length absent ≡ length (lacking f v blocks x)
-  all_here alone a under over absent once missing all =
-      absent_all good v blocks stand.extent stand.start stand.few stand.top level stand.below absent once (λ p h. missing_here p (missing p h)) under
+  all_here alone a top under over absent once missing all =
+      absent_all good v blocks stand.extent stand.start stand.few level stand.below absent once (λ p h. missing_here p (missing p h)) top under
       (λ j from to. own_here (position_over f x.first j) (over j from to))
       (λ p h. elim (all p h) [ inl m ↦ inl m | inr own ↦ inr (own_here p own) ])
 
@@ -102,12 +104,12 @@ module _ {f : Layout} (good : IsLayout f) {tells : Type 0} {v d : View} {blocks 
       FindsAbsent f tells v (rested w) blocks x count
   found w absent count most capped once missing told = record {
     capped = capped;
-    few = (let s = absent_few good v blocks stand.extent stand.start stand.few stand.top level stand.below absent once (λ p h. missing_here p (missing p h)) in omega arith);
+    few = (let s = absent_few good v blocks stand.extent stand.start stand.few level stand.below absent once (λ p h. missing_here p (missing p h)) in omega arith);
     shown = λ t.
         let first : AddsAbsences v d = stand.walked.absent t in
         let here = told t in
         let facts : List Absence = first.facts ++ here.0 in
-        let s = absent_shown good v blocks stand.extent stand.start stand.few stand.top level stand.below absent once (λ p h. missing_here p (missing p h)) facts
+        let s = absent_shown good v blocks stand.extent stand.start stand.few level stand.below absent once (λ p h. missing_here p (missing p h)) facts
         (λ p h. shown_right f first.facts here.0 p (here.2 p h)) in
         (facts, here.1 ∙ ap (λ (xs : List Absence). xs ++ here.0) first.are ∙ append_assoc v.absent first.facts here.0, omega arith);
   }
@@ -125,27 +127,25 @@ module _ {f : Layout} (good : IsLayout f) {tells : Type 0} {v d : View} {blocks 
     pieces_after : w.pieces ≡ add_pieces f v.pieces (all_pieces f (tiles f x))
     pieces_after = m.pieces ∙ ap (λ (ps : List Piece). add_pieces f ps (all_pieces f (tiles f x))) stand.walked.book.pieces
 
-    tables_same : (p : Position) → IsAmong w.tables p ↔ (IsAmong v.tables p ⊎ (IsAmong (tables_of f x) p × (is_spine v.levels p ≡ false)))
-    tables_same p = gains_on v d w.tables (tables_of f x) p stand.walked.book.tables stand.walked.range.levels (m.tables p)
+    tables_same : (p : Position) → IsAmong w.tables p ↔ ((IsAmong v.tables p × (is_replaced f (tiles f x) p ≡ false)) ⊎ (IsAmong (tables_of f x) p × (is_spine v.levels p ≡ false)))
+    tables_same p =
+        subst (λ (l : ℕ). IsAmong w.tables p ↔ ((IsAmong v.tables p × (is_replaced f (tiles f x) p ≡ false)) ⊎ (IsAmong (tables_of f x) p × (is_spine l p ≡ false)))) stand.walked.range.levels
+        (subst (λ (ps : List Position). IsAmong w.tables p ↔ ((IsAmong ps p × (is_replaced f (tiles f x) p ≡ false)) ⊎ (IsAmong (tables_of f x) p × (is_spine d.levels p ≡ false)))) stand.walked.book.tables (m.tables p))
 
     sorted_after : IsSorted w.tables
     sorted_after = m.in_order (subst (λ (ps : List Position). IsSorted ps) (sym stand.walked.book.tables) stand.sorted)
-
-    pub full_mapped : HasNoEmptyTable f w
-    full_mapped = full_after good v stand.extent w stand.full pieces_after (λ p. (tables_same p).0)
 
     pub accepts : occupied f x (book_of v blocks) ≡ None
     accepts = ap (λ o. option_map (λ page. Occupied (byte_at f page)) o) (none_there m.free)
 
     few : length m.absent ≤ length (unknown f v blocks x)
-    few = absent_few good v blocks stand.extent stand.start stand.few stand.top level stand.below m.absent m.are_absent.once (λ p h. missing_here p (m.are_absent.missing p h))
+    few = absent_few good v blocks stand.extent stand.start stand.few level stand.below m.absent m.are_absent.once (λ p h. missing_here p (m.are_absent.missing p h))
 
-    top_stays : v.top ≡ (book_with f v blocks x).top
-    top_stays =
-        let some = stand.extent.some in let top = stand.top in
-        let ends : x.first + (x.end - x.first) ≡ x.end = omega arith in
-        let least : least_top f v.levels (x.first + (x.end - x.first)) ≡ least_top f v.levels x.end = ap (least_top f v.levels) ends in
-        omega arith
+    top_after : w.top ≡ (book_with f v blocks x).top
+    top_after =
+        let some = stand.extent.some in
+        m.top ∙ (λ i. top_with f (stand.walked.range.levels i) (stand.walked.book.top i) (tiles f x))
+        ∙ top_of_tiling f v.levels x.prot (tiles f x) v.top x.first x.out (x.end - x.first) (extent_tiling good stand.extent) (omega arith)
 
     blocks_after : w.pieces ≡ all_pieces f (book_with f v blocks x).blocks
     blocks_after =
@@ -166,14 +166,15 @@ module _ {f : Layout} (good : IsLayout f) {tells : Type 0} {v d : View} {blocks 
         end = m.end ∙ stand.walked.purse.end ∙ stand.rest.end;
         pieces = blocks_after;
       };
-      tables = tables_after good v stand.extent blocks w.tables stand.start stand.few stand.full (free_here m.free) stand.sorted sorted_after tables_same;
-      top = m.top ∙ stand.walked.book.top ∙ top_stays;
+      tables = tables_after good v stand.extent blocks w.tables stand.start stand.few stand.aligned stand.sorted sorted_after tables_same;
+      top = top_after;
       frames = record {
         absent = length m.absent;
         found = found w m.absent (length m.absent) (omega arith) (let c = m.capped in let n = frames_same in omega arith) m.are_absent.once m.are_absent.missing m.shown;
+        freed = m.freed;
         drawn = m.drawn;
         linked = m.used;
-        purse = ap (λ (xs : List ℕ). m.drawn ++ xs) (sym purse_same) ∙ m.purse;
+        purse = ap (λ (xs : List ℕ). m.freed ++ (m.drawn ++ xs)) (sym purse_same) ∙ m.purse;
         few = (let a = m.few in let b = few in omega arith);
         spared = (let a = m.spared in let p : length d.purse ≡ length v.purse = ap length purse_same in omega arith);
       };
@@ -184,16 +185,25 @@ module _ {f : Layout} (good : IsLayout f) {tells : Type 0} {v d : View} {blocks 
     }
 
     -- over a lone holder, where so many positions were linked before
-    module _ (aside : Aside) (is : linked ≡ linked_count v aside) (a : alone) (under : x.end ≤ end_of_table f (position_over f x.first level)) (over : OwnsOver f d x.first level f.levels) where
+    module _ (aside : Aside) (is : linked ≡ linked_count v aside) (a : alone) (reach : least_top f v.levels x.end ≤ v.top) (under : x.end ≤ end_of_table f (position_over f x.first level)) (over : OwnsOver f d x.first level f.levels) where
       pub links_all : LinksAll f v (rested w) aside blocks x
       links_all =
-          let all = all_here alone a under over m.absent m.are_absent.once m.are_absent.missing (m.are_absent.all a) in
+          let all = all_here alone a reach under over m.absent m.are_absent.once m.are_absent.missing (m.are_absent.all a) in
           let room = m.room a in let frames = frames_same in
-          let more = tables_more good v blocks stand.extent stand.start stand.few stand.top w.tables stand.sorted sorted_after tables_same in
-          let top : w.top ≡ v.top = m.top ∙ stand.walked.book.top in
+          let more = tables_more good v blocks stand.extent stand.start stand.few reach w.tables stand.sorted sorted_after tables_same in
+          let top : w.top ≡ v.top = (let after = top_after in let some = stand.extent.some in
+          let ends : x.first + (x.end - x.first) ≡ x.end = omega arith in
+          let least : least_top f v.levels (x.first + (x.end - x.first)) ≡ least_top f v.levels x.end = ap (least_top f v.levels) ends in omega arith) in
           let levels : w.levels ≡ v.levels = m.range.levels ∙ stand.walked.range.levels in
           let spine : length (levels_between (starting_top w.levels) w.top) ≡ length (levels_between (starting_top v.levels) v.top) = (λ i. length (levels_between (starting_top (levels i)) (top i))) in
-          record { enough = omega arith; linked = omega arith }
+          let gone : length (replaced f d (tiles f x)) ≡ length (replaced f v (tiles f x)) = ap (λ (ps : List Position). length (filter (is_replaced f (tiles f x)) ps)) stand.walked.book.tables in
+          let back = m.back a in let used = m.few in
+          let purse : length d.purse ≡ length v.purse = ap length purse_same in
+          let sum : length (m.freed ++ (m.drawn ++ d.purse)) ≡ length (m.used ++ w.purse) = ap length m.purse in
+          let left : length (m.freed ++ (m.drawn ++ d.purse)) ≡ length m.freed + (length m.drawn + length d.purse) =
+          length-append m.freed (m.drawn ++ d.purse) ∙ ap (λ (n : ℕ). length m.freed + n) (length-append m.drawn d.purse) in
+          let right = length-append m.used w.purse in
+          record { enough = omega arith; linked = omega arith; none_lost = omega arith }
 
   -- The extent was refused.
   module _ {alone : Type 0} {linked : ℕ} {w : View} {e : MapRefused} (r : RefusedBelow f tells alone linked d w x level e) where
@@ -212,9 +222,6 @@ module _ {f : Layout} (good : IsLayout f) {tells : Type 0} {v d : View} {blocks 
           grew = λ t. let g = s.grew t in grew_on w t g.0 (g.1, g.2);
           stores = λ t. s.stores t ∙ stand.walked.stores t;
         }
-
-    pub full_refused : HasNoEmptyTable f w
-    full_refused = full_on f v w (book_on stand.walked.book r.stays.book) stand.full
 
   pub keeps_purse : (w : View) (e : MapRefused) → KeepsPurse d w e → KeepsPurse v (rested w) e
   keeps_purse w (refused.NoFrames absent held) k = tt
@@ -260,14 +267,14 @@ module _ {f : Layout} (good : IsLayout f) {tells : Type 0} {v d : View} {blocks 
         ];
       }
 
-      is_short : alone → x.end ≤ end_of_table f (position_over f x.first level) → OwnsOver f d x.first level f.levels →
+      is_short : alone → least_top f v.levels x.end ≤ v.top → x.end ≤ end_of_table f (position_over f x.first level) → OwnsOver f d x.first level f.levels →
           (v.frames < linked + length (lacking f v blocks x)) × (absent ≡ min (v.frames + 1) (length (lacking f v blocks x)))
-      is_short a under over =
+      is_short a reach under over =
           let c = n.count_is in let s = frames_same in let more = l.more in let is = l.held_is in
-          let most = absent_most good v blocks stand.extent stand.start stand.few stand.top level stand.below n.absent n.once (λ p h. missing_here p (n.missing p h)) in
+          let most = absent_most good v blocks stand.extent stand.start stand.few level stand.below n.absent n.once (λ p h. missing_here p (n.missing p h)) in
           elim (cases_lt absent (d.frames + 1)) [
             | inl fits ↦
-                let all = all_here alone a under over n.absent n.once n.missing (n.all a fits) in
+                let all = all_here alone a reach under over n.absent n.once n.missing (n.all a fits) in
                 elim (l.all a) [
                   | inl none ↦ absurd (omega arith)
                   | inr sum ↦ (omega arith, omega arith)
@@ -282,10 +289,10 @@ module _ {f : Layout} (good : IsLayout f) {tells : Type 0} {v d : View} {blocks 
     is_wanting refused.OutputRange h = tt
     is_wanting (refused.Occupied address) h = tt
 
-    pub is_short_of : alone → x.end ≤ end_of_table f (position_over f x.first level) → OwnsOver f d x.first level f.levels →
+    pub is_short_of : alone → least_top f v.levels x.end ≤ v.top → x.end ≤ end_of_table f (position_over f x.first level) → OwnsOver f d x.first level f.levels →
         (e : MapRefused) → HasCause f tells alone linked d w x level e → IsShortOf f v linked blocks x e
-    is_short_of a under over (refused.NoFrames absent held) h = is_short h.1 h.2 a under over
-    is_short_of a under over refused.Misaligned h = tt
-    is_short_of a under over refused.OutsideLease h = tt
-    is_short_of a under over refused.OutputRange h = tt
-    is_short_of a under over (refused.Occupied address) h = tt
+    is_short_of a reach under over (refused.NoFrames absent held) h = is_short h.1 h.2 a reach under over
+    is_short_of a reach under over refused.Misaligned h = tt
+    is_short_of a reach under over refused.OutsideLease h = tt
+    is_short_of a reach under over refused.OutputRange h = tt
+    is_short_of a reach under over (refused.Occupied address) h = tt

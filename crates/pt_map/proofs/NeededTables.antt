@@ -126,7 +126,7 @@ pub record LiesUnder (f : Layout) (level page : ℕ) (p : Position) : Type 0 whe
   pub to : end_of_table f p ≤ (page / pages_of_entry f level + 1) * pages_of_entry f level
 
 module _ {f : Layout} (good : IsLayout f) where
-  index_some : 0 < f.index
+  pub index_some : 0 < f.index
   index_some = omega (arith, good.index_is, good.granule_low)
 
   levels_some : f.levels - 1 + 1 ≡ f.levels

@@ -7,12 +7,14 @@ use Rattle.pt_format.specs.Words.{MayBeLeaves}
 use Rattle.pt_tile.specs.Runs.{run_blocks}
 use Rattle.pt_view.specs.declared.view.View.{View}
 use Rattle.pt_view.specs.Calls.{held_count}
-use Rattle.pt_walk.specs.Walks.{IsFree}
+use Rattle.pt_walk.specs.Walks.{HasNoTable, IsFree}
 use Rattle.pt_view.specs.Loads.{ByLoads}
 use Rattle.pt_tile.specs.declared.extent.Extent.{Extent}
 use Rattle.pt_map.specs.Filled.{MayStore, MayStoreRun, StoresRun}
 use Rattle.pt_map.specs.Requests.{MappedBelow, MayMapBelow}
-use Rattle.pt_map.proofs.MapFromTable.{mapped_below, may_store}
+use Rattle.pt_map.specs.Replaced.{HasNoneReplaced, MayMakeWay, UnlinksReplaced}
+use Rattle.pt_map.proofs.MapFromTable.{mapped_below, may_make, may_store, none_kept}
+use Rattle.pt_map.proofs.ReplacedTables.{no_table_replaced}
 use Rattle.std.proofs.lemmas.Nat.{div-add-mod'}
 use Rattle.pt_tile.proofs.RunTilings.{run_shifted}
 use Rattle.pt_tile.proofs.FirstSizes.{size_greatest}
@@ -52,30 +54,38 @@ block_end f good x part level k e one whole =
     let ends : x.end ≡ x.first + 2 ^ (f.index * level) = subst (λ (j : ℕ). x.end ≡ x.first + 2 ^ j) one whole in
     ends_there x.first x.end (2 ^ (f.index * level)) aligned ends
 
--- From view v a walk to view b found no mapped page; from there the block is written.
+-- From view v a walk to view b found no mapped page.
 module _ {f : Layout} (good : IsLayout f) {tells : Type 0} {v b : View} {x : Extent} {log2 level : ℕ} (may : MayMapBelow f v x level) (is : IsBlockOf f x log2 level)
     (walked : ByLoads tells v b) (path : b.path ≡ v.path) (free : IsFree f v x.first x.end) where
+  pub block_way : MayMakeWay f b x level
+  block_way = may_make good may walked path (gathered_none tells b 0) free
+
+  pub block_none : HasNoTable v x.first x.end level → HasNoneReplaced f b (tiles f x)
+  block_none none = none_kept good may walked path (gathered_none tells b 0) (no_table_replaced good may.stands.at none)
+
   run : IsRun f x 1
   run = one_run f good x may.stands.at.extent log2 is.size is.whole
-
-  stores : MayStore f b x level
-  stores = may_store good may walked path (gathered_none tells b 0) free
-
-  pub block_may : MayStoreRun f b 1 (block log2 x) level
-  block_may = may_run good stores log2 is.size is.high run
-
-  pub block_leaves : MayBeLeaves f level log2 x.out x.prot 1
-  block_leaves = run_leaves good stores log2 is.size is.high run
 
   to : x.end ≡ x.first + 1 * 2 ^ log2 % 2 ^ 64
   to = is.whole ∙ ap (λ (j : ℕ). x.first + 2 ^ j) is.size ∙ (let one : x.first + 2 ^ first_size f x ≡ x.first + 1 * 2 ^ first_size f x = omega arith in one)
       ∙ sym (run_shifted good may.stands.at.extent run log2 is.size)
 
-  pub block_mapped : {alone alone_b : Type 0} {old new : Aside} → (alone → alone_b) → new ≡ old → (alone_b → linked_count b new + held_count b ≤ b.frames) →
-      {w : View} → StoresRun f tells b w 1 (block log2 x) → MappedBelow f tells alone (linked_count v old) v w x level
-  block_mapped {alone = alone} {alone_b = alone_b} {old = old} {new = new} still same few stored =
-      let none = none_below good stores log2 is.size is.high run x.end to in
-      mapped_below good may walked path (gathered_none tells b 0) (nothing_counted f tells alone v b (tables_below f x level) (v.frames + 1) walked none) free refl
-      {alone_c = alone_b} {old = old} {new = new} still same
-      (record { held = omega arith; frames = omega arith; few = λ a. let h = few a in omega arith })
-      (fills_run good stores log2 is.size is.high run x.end to stored)
+  -- Way was made for it, from there to view z, from where the block is written.
+  module _ {alone_b : Type 0} {z : View} (made : UnlinksReplaced f tells alone_b (tiles f x) b z) where
+    stores : MayStore f z x level
+    stores = may_store good may walked path (gathered_none tells b 0) free made
+
+    pub block_may : MayStoreRun f z 1 (block log2 x) level
+    block_may = may_run good stores log2 is.size is.high run
+
+    pub block_leaves : MayBeLeaves f level log2 x.out x.prot 1
+    block_leaves = run_leaves good stores log2 is.size is.high run
+
+    pub block_mapped : {alone : Type 0} {old new : Aside} → (alone → alone_b) → new ≡ old → (alone_b → linked_count b new + held_count b ≤ b.frames) →
+        {w : View} → StoresRun f tells z w 1 (block log2 x) → MappedBelow f tells alone (linked_count v old) v w x level
+    block_mapped {alone = alone} {old = old} {new = new} still same few stored =
+        let none = none_below good stores log2 is.size is.high run x.end to in
+        mapped_below good may walked path (gathered_none tells b 0) (nothing_counted f tells alone v b (tables_below f x level) (v.frames + 1) walked none) free refl
+        {alone_c = alone_b} {old = old} {new = new} still same
+        (record { held = omega arith; frames = omega arith; few = λ a. let h = few a in omega arith })
+        still made (fills_run good stores log2 is.size is.high run x.end to stored)

@@ -1,19 +1,17 @@
 -- The entries of a run of blocks: each has one word of one of its blocks, and all are in one table.
 use Rattle.pt_model.proofs.Tops.{above_top, top_low}
-use Rattle.std.proofs.Common.{length, true, ◌≡◌, ℕ, zero, suc, ◌+◌, ◌-◌, ◌*◌, ◌/◌, ◌%◌, ◌^◌, ◌<◌, ◌≤◌, List, [], ◌∷◌, ◌++◌, inl, inr, refl, ap, sym, ◌∙◌, subst, arith, max, false}
+use Rattle.std.proofs.Common.{length, true, ◌≡◌, ℕ, zero, suc, ◌+◌, ◌-◌, ◌*◌, ◌/◌, ◌%◌, ◌^◌, ◌<◌, ◌≤◌, List, [], ◌∷◌, ◌++◌, inl, inr, refl, ap, sym, ◌∙◌, subst, arith, false}
 use Rattle.std.specs.Prelude.{◌↔◌, map, ◌==◌, nat_le}
 use Rattle.std.specs.List.{range_with_len}
 use Rattle.std.proofs.lemmas.Bool.{cases_lt, and_from, eq-eqb, false≢true, le-leb}
 use Rattle.std.proofs.lemmas.List.{map-append}
-use Rattle.std.proofs.lemmas.List.Sums.{fold-append}
-use Rattle.std.proofs.lemmas.List.FromFn.{map-range_with_len_more}
 use Rattle.std.proofs.lemmas.Nat.{mod_below, mod_low, mul-le, pow-add, pow_below, pow_pos, shl-shr, shr_high, shr_split}
 use Rattle.std.proofs.Math.Nat.{div-lt_iff_lt-mul}
 use Rattle.pt_model.specs.declared.position.Position.{Position}
 use Rattle.pt_model.specs.declared.block.Block.{Block}
 use Rattle.pt_model.specs.declared.block.Prot.{Prot}
 use Rattle.pt_model.specs.Layout.{Layout, IsLegalBlock, end_of, level_of_size, pages_of_entry, pages_of_table}
-use Rattle.pt_model.specs.Tables.{all_needed, end_of_table, least_top, position_over, is_spine, spine_position}
+use Rattle.pt_model.specs.Tables.{all_needed, end_of_table, position_over, is_spine, spine_position}
 use Rattle.pt_model.specs.Tiling.{IsGreatestSize, block_at, tiling}
 use Rattle.pt_model.specs.Sets.{IsSorted, IsAmong}
 use Rattle.pt_model.proofs.Positions.{sorted_adds, adds_are}
@@ -38,7 +36,8 @@ use Rattle.pt_view.proofs.Members.{piece_at}
 use Rattle.pt_tile.proofs.FirstSizes.{size_greatest}
 use Rattle.pt_map.proofs.PathTables.{positions, tables_way, way_tables}
 use Rattle.pt_map.proofs.BlockWords.{first_whole, more_low, number_at, size_is, word_is}
-use Rattle.pt_map.proofs.WordsWritten.{among_off, block_part, may_leaf, may_put, top_reaches}
+use Rattle.pt_map.proofs.TopsOver.{top_of_pieces}
+use Rattle.pt_map.proofs.WordsWritten.{among_off, block_part, may_leaf, may_put}
 use Rattle.pt_tile.specs.Extents.{IsExtent, IsOneBlock, blocks_of, extent_of, first_size, tables_of, tiles}
 use Rattle.pt_tile.proofs.TileFacts.{one_greatest}
 use Rattle.pt_tile.proofs.Levels.{over_first}
@@ -187,7 +186,7 @@ module _ {f : Layout} (good : IsLayout f) {v : View} {b : Block} {count level : 
             elim (cases_lt p.level (length v.path + level)) [
               | inl on ↦ subst (IsAmong (positions v.path)) over (tables_way f b.first (length v.path + level) level v.path may.stands.way long p.level high on)
               | inr above ↦ absurd (
-                  let top = may.stands.top in let root = may.stands.high in
+                  let reach_root = may.stands.reach in
                   let reach = above_top f v.levels x.end p.level page.3 (omega arith) in
                   let least = top_low f v.levels x.end in let some = may.stands.at.extent.some in
                   let spine : is_spine v.levels (spine_position p.level) ≡ true =
@@ -360,18 +359,6 @@ module _ {f : Layout} (good : IsLayout f) {v : View} {b : Block} {count level : 
       are = are_pieces;
     }
 
-    -- the top reaches over each of its blocks
-    top_kept : (n : ℕ) → n ≤ count * 2 ^ bits → top_over f v.levels v.top (pieces_to b (2 ^ bits) n) ≡ v.top
-    top_kept zero few = refl
-    top_kept (suc n) few =
-        let reach = top_reaches good (block n (omega arith)) (may_block n (omega arith)) (one n (omega arith)) here in
-        let more : pieces_to b (2 ^ bits) (suc n) ≡ pieces_to b (2 ^ bits) n ++ piece_in b (2 ^ bits) n ∷ [] =
-        ap (pieces_to b (2 ^ bits)) (let e : suc n ≡ n + 1 = omega arith in e) ∙ map-range_with_len_more (piece_in b (2 ^ bits)) 0 n n (let z : 0 + n ≡ n = omega arith in z) in
-        ap (top_over f v.levels v.top) more
-        ∙ fold-append (λ (t : ℕ) (x : Piece). max t (least_top f v.levels (end_of x.block))) v.top (pieces_to b (2 ^ bits) n) (piece_in b (2 ^ bits) n ∷ [])
-        ∙ ap (λ (t : ℕ). max t (least_top f v.levels (end_of (block n (omega arith))))) (top_kept n (omega arith))
-        ∙ (let e : max v.top (least_top f v.levels (end_of (block n (omega arith)))) ≡ v.top = omega arith in e)
-
     -- they were written
     module _ {tells : Type 0} {w : View} (written : IsWrittenRun f tells number (count * 2 ^ bits) word step v w) where
       pub run_filled : Filled f tells v w (blocks_of count b) (tables_of f (extent_of count b))
@@ -382,7 +369,7 @@ module _ {f : Layout} (good : IsLayout f) {v : View} {b : Block} {count level : 
             path = written.path;
             prepared = written.prepared;
             end = written.purse.end;
-            top = written.top (piece_in b (2 ^ bits)) are_pieces ∙ top_kept (count * 2 ^ bits) (let e : count * 2 ^ bits ≤ count * 2 ^ bits = omega arith in e);
+            top = written.top (piece_in b (2 ^ bits)) are_pieces ∙ ap (top_over f v.levels v.top) all ∙ top_of_pieces f v.levels v.top (blocks_of count b);
             pieces = written.pieces (piece_in b (2 ^ bits)) are_pieces ∙ ap (add_pieces f v.pieces) all;
             tables = λ p.
                 let m = adds_are (off_spine v.levels v.path) v.tables p in

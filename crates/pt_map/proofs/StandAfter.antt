@@ -4,7 +4,7 @@ use Rattle.std.specs.Prelude.{Some}
 use Rattle.pt_model.specs.declared.position.Position.{Position}
 use Rattle.pt_model.specs.Layout.{Layout}
 use Rattle.pt_model.specs.Sets.{IsAmong}
-use Rattle.pt_model.specs.Tables.{end_of_table, least_top, position_over, spine_position}
+use Rattle.pt_model.specs.Tables.{end_of_table, least_top, position_over, spine_position, starting_top}
 use Rattle.pt_model.proofs.Tops.{top_mono}
 use Rattle.pt_format.specs.Laws.{IsLayout}
 use Rattle.pt_view.specs.declared.view.View.{View}
@@ -22,19 +22,18 @@ use Rattle.pt_map.proofs.NeededTables.{same_table}
 use Rattle.pt_map.proofs.PathTables.{way_moves, way_on}
 use Rattle.pt_view.specs.Loads.{ByLoads}
 
--- a step that keeps the range, the top and the prepared frame, and forgets no linked position
+-- a step that keeps the range and the prepared frame, and forgets no linked position of the spine
 pub record Keeps (v w : View) : Type 0 where
   pub range : SameRange v w
-  pub top : w.top ≡ v.top
   pub prepared : w.prepared ≡ v.prepared
-  pub known : (p : Position) → IsAmong v.known p → IsAmong w.known p
+  pub known : (l : ℕ) → starting_top v.levels ≤ l → IsAmong v.known (spine_position l) → IsAmong w.known (spine_position l)
 
 -- loads keep what was met
 pub loads_keep : {tells : Type 0} {v w : View} → ByLoads tells v w → Keeps v w
-loads_keep loads = record { range = loads.range; top = loads.book.top; prepared = loads.prepared; known = loads.known }
+loads_keep loads = record { range = loads.range; prepared = loads.prepared; known = λ l low h. loads.known (spine_position l) h }
 
 pub keeps_here : (v : View) → Keeps v v
-keeps_here v = record { range = record { frames = refl; levels = refl; first = refl; count = refl }; top = refl; prepared = refl; known = λ p h. h }
+keeps_here v = record { range = record { frames = refl; levels = refl; first = refl; count = refl }; prepared = refl; known = λ l low h. h }
 
 -- The path stays, and the way goes on to an extent that is inside the one before.
 module _ {f : Layout} (good : IsLayout f) {v w : View} {x y : Extent} {level : ℕ} (at : IsExtentAt f v x level) (part : IsExtent f y) (from_it : x.first ≤ y.first) (to_it : y.end ≤ x.end)
@@ -61,15 +60,15 @@ module _ {f : Layout} (good : IsLayout f) {v w : View} {x y : Extent} {level : �
           to = omega arith;
         };
         low = low;
-        spine = λ l high below. keeps.known (spine_position l) (at.spine l (omega arith) below);
+        spine = λ l high below. keeps.known l (omega arith) (at.spine l (omega arith) below);
       }
 
 -- the same, on the way from the root
 pub stands_moves : {f : Layout} (good : IsLayout f) {v w : View} {x y : Extent} {level : ℕ} (s : StandsAt f v x level) → IsExtent f y → x.first ≤ y.first → y.end ≤ x.end →
-    first_size f y < f.index * (level + 1) → Keeps v w → w.path ≡ v.path → StandsAt f w y level
-stands_moves {f = f} good {v = v} {w = w} {x = x} {y = y} {level = level} s part from_it to_it low keeps path =
+    first_size f y < f.index * (level + 1) → Keeps v w → w.path ≡ v.path → w.top < length v.path + level → StandsAt f w y level
+stands_moves {f = f} good {v = v} {w = w} {x = x} {y = y} {level = level} s part from_it to_it low keeps path high =
     let long : length w.path ≡ length v.path = ap length path in
-    let top = keeps.top in let high = s.high in let below = s.below in
+    let below = s.below in
     record {
       at = at_moves good s.at part from_it to_it low keeps path;
       way = subst (λ ns. IsWayDown f y.first (length ns + level) ns) (sym path)
@@ -77,7 +76,7 @@ stands_moves {f = f} good {v = v} {w = w} {x = x} {y = y} {level = level} s part
       high = omega arith;
       below = omega arith;
       none = keeps.prepared ∙ s.none;
-      top = (let reach = s.top in let less = top_mono f v.levels y.end x.end to_it in
+      reach = (let reach = s.reach in let less = top_mono f v.levels y.end x.end to_it in
           let e : least_top f w.levels y.end ≡ least_top f v.levels y.end = ap (λ (l : ℕ). least_top f l y.end) keeps.range.levels in omega arith);
     }
 
@@ -111,17 +110,17 @@ module _ {f : Layout} (good : IsLayout f) {v w : View} {x : Extent} {level : ℕ
             to = omega arith;
           };
           low = lower_size;
-          spine = λ l high low. keeps.known (spine_position l) (at.spine l (omega arith) (omega arith));
+          spine = λ l high low. keeps.known l (omega arith) (at.spine l (omega arith) (omega arith));
         }
 
 -- the same, on the way from the root
 pub stands_inside : {f : Layout} (good : IsLayout f) {v w : View} {x : Extent} {level : ℕ} (s : StandsAt f v x level) → IsEntryExtent f x level → Keeps v w →
-    (node : Node) → node.position ≡ position_over f x.first (level - 1) → w.path ≡ v.path ++ node ∷ [] → StandsAt f w x (level - 1)
-stands_inside {f = f} good {v = v} {w = w} {x = x} {level = level} s entry keeps node is path =
+    (node : Node) → node.position ≡ position_over f x.first (level - 1) → w.path ≡ v.path ++ node ∷ [] → w.top < length v.path + level → StandsAt f w x (level - 1)
+stands_inside {f = f} good {v = v} {w = w} {x = x} {level = level} s entry keeps node is path high =
     let some = level_some good s.at entry keeps in
     let e : length w.path ≡ length (v.path ++ node ∷ []) = ap length path in
     let sum = length-append v.path (node ∷ []) in
-    let top = keeps.top in let high = s.high in let below = s.below in
+    let below = s.below in
     let long : length v.path + level ≡ length (v.path ++ node ∷ []) + (level - 1) = omega arith in
     record {
       at = at_inside good s.at entry keeps node is path;
@@ -130,5 +129,5 @@ stands_inside {f = f} good {v = v} {w = w} {x = x} {level = level} s entry keeps
       high = omega arith;
       below = omega arith;
       none = keeps.prepared ∙ s.none;
-      top = (let reach = s.top in let e : least_top f w.levels x.end ≡ least_top f v.levels x.end = ap (λ (l : ℕ). least_top f l x.end) keeps.range.levels in omega arith);
+      reach = (let reach = s.reach in let same : least_top f w.levels x.end ≡ least_top f v.levels x.end = ap (λ (l : ℕ). least_top f l x.end) keeps.range.levels in omega arith);
     }

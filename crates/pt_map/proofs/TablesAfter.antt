@@ -1,42 +1,25 @@
--- The tables of a book after a map, and that each of them has a piece under it.
-use Rattle.std.proofs.lemmas.Bool.{not-true, cases_Bool, and_parts, leb-true, false_from_ne_true}
-use Rattle.pt_view.specs.Views.{SameBook}
-use Rattle.std.proofs.Common.{◌≡◌, ℕ, suc, ◌+◌, ◌-◌, ◌*◌, ◌/◌, ◌<◌, ◌≤◌, ◌⊎◌, ◌↔◌, List, [], ◌∷◌, Bool, true, false, inl, inr, refl, ap, sym, subst, ◌∙◌, arith}
+-- The tables of a book after a map.
+use Rattle.std.proofs.lemmas.Bool.{and_from, and_parts, cases_Bool, cases_lt, false_from_ne_true, false≢true, leb-true, le-leb, not-true, or_cases, or_left, or_right}
+use Rattle.std.proofs.Common.{◌≡◌, ℕ, suc, ◌+◌, ◌*◌, ◌/◌, ◌%◌, ◌^◌, ◌<◌, ◌≤◌, ◌⊎◌, ◌↔◌, List, [], ◌∷◌, Bool, true, false, inl, inr, refl, ap, sym, subst, ◌∙◌, arith}
 use Rattle.std.specs.Prelude.{IsTrue, nat_le, not, filter, length, slice_index_or, AllPairs}
 use Rattle.std.specs.List.{list_any}
-use Rattle.std.proofs.lemmas.Nat.{pow_pos, shr_split, mod_below}
+use Rattle.std.proofs.lemmas.Nat.{le-div, pow-add, pow_pos}
+use Rattle.std.proofs.Math.Pow.{pow_mono}
 use Rattle.pt_model.specs.declared.block.Block.{Block}
 use Rattle.pt_model.specs.declared.position.Position.{Position}
-use Rattle.pt_model.specs.Layout.{Layout, end_of, level_of_size, pages_of_table}
-use Rattle.pt_model.specs.Tables.{add_positions, end_of_table, is_before, is_spine, position_over, all_needed}
+use Rattle.pt_model.specs.Layout.{Layout, end_of, pages_of_table}
+use Rattle.pt_model.specs.Tables.{end_of_table, is_before, is_spine, all_needed}
 use Rattle.pt_model.specs.Sets.{IsSorted, IsAmong}
 use Rattle.pt_model.specs.Book.{table_lies_in}
-use Rattle.pt_model.proofs.Positions.{among_none, adds_by_members, filter_members, among_filtered, among_passes, among_cases}
+use Rattle.pt_model.proofs.Positions.{among_none, adds_by_members, among_filtered, among_passes, among_cases, sorted_filter}
 use Rattle.pt_format.specs.Laws.{IsLayout}
 use Rattle.pt_view.specs.declared.view.View.{View}
-use Rattle.pt_view.specs.declared.view.Piece.{Piece}
-use Rattle.pt_view.specs.Pieces.{IsOneOf, add_piece, add_pieces, all_pieces, first_of, pieces_of, words_of}
-use Rattle.pt_walk.specs.Walks.{IsFree}
-use Rattle.pt_view.proofs.Members.{mapped_one, piece_at}
 use Rattle.pt_tile.specs.declared.extent.Extent.{Extent}
-use Rattle.pt_map.specs.Answers.{HasNoEmptyTable, book_with}
-use Rattle.pt_map.proofs.NeededTables.{needing, needs_any, needs_of_block, needed_same}
-use Rattle.pt_map.proofs.FirstMapped.{piece_of_block}
+use Rattle.pt_map.specs.Answers.{book_with}
+use Rattle.pt_map.specs.Replaced.{is_replaced}
+use Rattle.pt_map.proofs.NeededTables.{needed_same}
+use Rattle.pt_map.proofs.ReplacedTables.{replaced_ends, replaced_is}
 use Rattle.pt_tile.specs.Extents.{IsExtent, IsOneBlock, tables_of, tiles}
-use Rattle.pt_tile.proofs.FirstParts.{tile_of}
-
--- what tables gain by a list of positions, from those of a view of the same tables and levels before
-pub gains_on : (v w : View) (after needed : List Position) (p : Position) → w.tables ≡ v.tables → w.levels ≡ v.levels → IsAmong after p ↔ (IsAmong w.tables p ⊎ (IsAmong needed p × (is_spine w.levels p ≡ false))) →
-    IsAmong after p ↔ (IsAmong v.tables p ⊎ (IsAmong needed p × (is_spine v.levels p ≡ false)))
-gains_on v w after more p tables levels h =
-    subst (λ (l : ℕ). IsAmong after p ↔ (IsAmong v.tables p ⊎ (IsAmong more p × (is_spine l p ≡ false)))) levels
-    (subst (λ (ps : List Position). IsAmong after p ↔ (IsAmong ps p ⊎ (IsAmong more p × (is_spine w.levels p ≡ false)))) tables h)
-
--- a view of the same book has no empty table either
-pub full_on : (f : Layout) (v w : View) → SameBook v w → HasNoEmptyTable f v → HasNoEmptyTable f w
-full_on f v w book full = λ p m.
-    let y = full p (subst (λ (ps : List Position). IsAmong ps p) book.tables m) in
-    (y.0, subst (λ (ps : List Piece). IsOneOf ps y.0) (sym book.pieces) y.1, y.2, y.3)
 
 -- Lists.
 
@@ -59,104 +42,70 @@ sorted_tables (q ∷ qs) pairs = (
   sorted_tables qs (λ i j d a z. pairs (suc i) (suc j) d (omega arith) (omega arith)),
 )
 
--- a test that no block of a list passes
-none_lies : (f : Layout) (bs : List Block) (p : Position) → ((b : Block) → IsOneBlock bs b → table_lies_in f b.first (end_of b) p ≡ false) →
-    list_any (λ b. table_lies_in f b.first (end_of b) p) bs ≡ false
-none_lies f [] p fails = refl
-none_lies f (b ∷ bs) p fails =
-    let here : table_lies_in f b.first (end_of b) p ≡ false = fails b (inl refl) in
-    rw here (none_lies f bs p (λ c m. fails c (inr m)))
+-- the book machine's test of a table that new blocks take the place of
+abbrev lies_in_any : Layout → List Block → Position → Bool
+lies_in_any f bs p = list_any (λ b. table_lies_in f b.first (end_of b) p) bs
 
--- pieces put among others are there, and the others stay
-
-put_here : (f : Layout) (xs : List Piece) (x : Piece) → IsOneOf (add_piece f xs x) x
-put_here f [] x = inl refl
-put_here f (y ∷ ys) x = elim (cases_Bool (nat_le (first_of f y) (first_of f x))) [
-  | inl e ↦ rw e (inr (put_here f ys x))
-  | inr e ↦ rw e (inl refl)
+any_lies : (f : Layout) (p : Position) (bs : List Block) → lies_in_any f bs p ≡ true → (b : Block) × IsOneBlock bs b × (table_lies_in f b.first (end_of b) p ≡ true)
+any_lies f p [] e = absurd (false≢true e)
+any_lies f p (b ∷ bs) e = elim (or_cases (table_lies_in f b.first (end_of b) p) (lies_in_any f bs p) e) [
+  | inl here ↦ (b, inl refl, here)
+  | inr more ↦ (let r : (c : Block) × IsOneBlock bs c × (table_lies_in f c.first (end_of c) p ≡ true) = any_lies f p bs more in (r.0, inr r.1, r.2))
 ]
 
-put_keeps : (f : Layout) (xs : List Piece) (x y : Piece) → IsOneOf xs y → IsOneOf (add_piece f xs x) y
-put_keeps f [] x y h = absurd h
-put_keeps f (z ∷ zs) x y h = elim (cases_Bool (nat_le (first_of f z) (first_of f x))) [
-  | inl e ↦ rw e (elim h [ inl same ↦ inl same | inr later ↦ inr (put_keeps f zs x y later) ])
-  | inr e ↦ rw e (inr h)
+lies_any : (f : Layout) (p : Position) (bs : List Block) (b : Block) → IsOneBlock bs b → table_lies_in f b.first (end_of b) p ≡ true → lies_in_any f bs p ≡ true
+lies_any f p [] b m h = absurd m
+lies_any f p (c ∷ cs) b m h = elim m [
+  | inl e ↦ or_left (table_lies_in f c.first (end_of c) p) (lies_in_any f cs p) (subst (λ (d : Block). table_lies_in f d.first (end_of d) p ≡ true) (sym e) h)
+  | inr more ↦ or_right (table_lies_in f c.first (end_of c) p) (lies_in_any f cs p) (lies_any f p cs b more h)
 ]
 
-pub puts_keep : (f : Layout) (zs xs : List Piece) (y : Piece) → IsOneOf xs y → IsOneOf (add_pieces f xs zs) y
-puts_keep f [] xs y h = h
-puts_keep f (z ∷ zs) xs y h = puts_keep f zs (add_piece f xs z) y (put_keeps f xs z y h)
-
-pub puts_there : (f : Layout) (zs xs : List Piece) (y : Piece) → IsOneOf zs y → IsOneOf (add_pieces f xs zs) y
-puts_there f [] xs y h = absurd h
-puts_there f (z ∷ zs) xs y h = elim h [
-  | inl e ↦ puts_keep f zs (add_piece f xs z) y (subst (λ (x : Piece). IsOneOf (add_piece f xs z) x) e (put_here f xs z))
-  | inr later ↦ puts_there f zs (add_piece f xs z) y later
-]
-
--- No table of the book lies in a range that is free, where each has a piece under it.
-pub no_table_in : (f : Layout) (v : View) (first end : ℕ) → HasNoEmptyTable f v → IsFree f v first end → (p : Position) → IsAmong v.tables p →
-    first ≤ p.base → end_of_table f p ≤ end → ⊥
-no_table_in f v first end full free p m from to =
-    let x : (x : Piece) × IsOneOf v.pieces x × (p.base ≤ first_of f x) × (first_of f x < end_of_table f p) = full p m in
-    let low = x.2 in let high = x.3 in
-    free (first_of f x.0) (omega arith) (omega arith) x.0 x.1 (omega arith, omega (arith, pow_pos (f.index * level_of_size f x.0.block.log2)))
+-- a table that lies in a block is of a level below that of the table in which the block stands
+lies_low : (index level log2 first base : ℕ) → 0 < index → first ≤ base → base + 2 ^ (index * (level + 1)) ≤ first + 2 ^ log2 → level < log2 / index
+lies_low index level log2 first base some from to =
+    let j : ℕ = index * (level + 1) in
+    let fits : j ≤ log2 = elim (cases_lt log2 j) [
+      | inl less ↦ absurd (let wide : 2 ^ (log2 + 1) ≤ 2 ^ j = pow_mono (let h : log2 + 1 ≤ j = omega arith in h) in
+          let twice : 2 ^ (log2 + 1) ≡ 2 ^ log2 * 2 = pow-add 2 log2 1 in let one = pow_pos log2 in omega arith)
+      | inr fine ↦ fine
+    ] in
+    let h : level + 1 ≤ log2 / index = le-div (level + 1) log2 index some (let c : (level + 1) * index ≡ index * (level + 1) = omega arith in omega arith) in omega arith
 
 module _ {f : Layout} (good : IsLayout f) (v : View) {x : Extent} (part : IsExtent f x) where
-  pub none_in_blocks : HasNoEmptyTable f v → IsFree f v x.first x.end → (p : Position) → IsAmong v.tables p → (b : Block) → IsOneBlock (tiles f x) b →
-      table_lies_in f b.first (end_of b) p ≡ false
-  none_in_blocks full free p m b here = false_from_ne_true (table_lies_in f b.first (end_of b) p) (λ e.
-      let h : (nat_le b.first p.base ≡ true) × (nat_le (end_of_table f p) (end_of b) ≡ true) = and_parts (nat_le b.first p.base) _ e in
-      let low = leb-true b.first p.base h.0 in
-      let high = leb-true (end_of_table f p) (end_of b) h.1 in
-      let t = tile_of good part b here in let from = t.from in let to = t.to in
-      no_table_in f v x.first x.end full free p m (omega arith) (omega arith))
+  -- for a table at a multiple of its pages the book machine's test is that of the map
+  same_test : (p : Position) → p.base % pages_of_table f p.level ≡ 0 → lies_in_any f (tiles f x) p ≡ is_replaced f (tiles f x) p
+  same_test p aligned = elim (cases_Bool (is_replaced f (tiles f x) p)) [
+    | inl e ↦
+        let r = replaced_ends good part p aligned e in
+        lies_any f p (tiles f x) r.0 r.1 (and_from (nat_le r.0.first p.base) _ (le-leb r.0.first p.base r.2) (le-leb (end_of_table f p) (end_of r.0) r.3)) ∙ sym e
+    | inr none ↦ false_from_ne_true (lies_in_any f (tiles f x) p) (λ h.
+        let r = any_lies f p (tiles f x) h in
+        let a = and_parts (nat_le r.0.first p.base) _ r.2 in
+        let from = leb-true r.0.first p.base a.0 in
+        let to = leb-true (end_of_table f p) (end_of r.0) a.1 in
+        let low = lies_low f.index p.level r.0.log2 r.0.first p.base (omega (arith, good.index_is, good.granule_low)) from to in
+        let some = pow_pos (f.index * (p.level + 1)) in
+        false≢true (sym none ∙ replaced_is f p (tiles f x) r.0 r.1 (low, from, omega arith))) ∙ sym none
+  ]
 
   -- the tables after are those of the book machine
-  pub tables_after : (blocks : List Block) (tables : List Position) → f.start ≤ v.levels → v.levels ≤ f.levels → HasNoEmptyTable f v → IsFree f v x.first x.end → IsSorted v.tables → IsSorted tables →
-      ((p : Position) → IsAmong tables p ↔ (IsAmong v.tables p ⊎ (IsAmong (tables_of f x) p × (is_spine v.levels p ≡ false)))) →
+  pub tables_after : (blocks : List Block) (tables : List Position) → f.start ≤ v.levels → v.levels ≤ f.levels → ((p : Position) → IsAmong v.tables p → p.base % pages_of_table f p.level ≡ 0) →
+      IsSorted v.tables → IsSorted tables →
+      ((p : Position) → IsAmong tables p ↔ ((IsAmong v.tables p × (is_replaced f (tiles f x) p ≡ false)) ⊎ (IsAmong (tables_of f x) p × (is_spine v.levels p ≡ false)))) →
       tables ≡ (book_with f v blocks x).tables
-  tables_after blocks tables start few full free sorted sorted_after same =
+  tables_after blocks tables start few aligned sorted sorted_after same =
       let all : List Position = all_needed f v.levels (tiles f x) in
       let off : Position → Bool = λ p. not (is_spine v.levels p) in
-      let stays : filter (λ p. not (list_any (λ b. table_lies_in f b.first (end_of b) p) (tiles f x))) v.tables ≡ v.tables =
-      filter_members _ v.tables (λ p m. ap not (none_lies f (tiles f x) p (none_in_blocks full free p (m)))) in
-      let off_true : (p : Position) → is_spine v.levels p ≡ false → off p ≡ true = λ p e. ap not e in
-      adds_by_members v.tables (filter off all) tables sorted sorted_after
+      let stays : Position → Bool = λ p. not (lies_in_any f (tiles f x) p) in
+      adds_by_members (filter stays v.tables) (filter off all) tables (sorted_filter stays v.tables sorted) sorted_after
       (λ p. (
         (λ m. elim ((same p).0 m) [
-          | inl old ↦ inl old
-          | inr new ↦ inr (among_passes off all p ((needed_same good part v.levels start few p new.1).1 new.0) (off_true p new.1))
+          | inl old ↦ inl (among_passes stays v.tables p old.0 (ap not (same_test p (aligned p old.0) ∙ old.1)))
+          | inr new ↦ inr (among_passes off all p ((needed_same good part v.levels start few p new.1).1 new.0) (ap not new.1))
         ]),
         (λ h. (same p).1 (elim h [
-          | inl old ↦ inl old
+          | inl old ↦ (let r = among_filtered stays v.tables p old in inl (r.0, sym (same_test p (aligned p r.0)) ∙ not-true (lies_in_any f (tiles f x) p) r.1))
           | inr new ↦ (let r = among_filtered off all p new in
-              let off = not-true (is_spine v.levels p) r.1 in inr ((needed_same good part v.levels start few p off).0 r.0, off))
+              let spine = not-true (is_spine v.levels p) r.1 in inr ((needed_same good part v.levels start few p spine).0 r.0, spine))
         ])),
       ))
-      ∙ ap (λ (ps : List Position). add_positions ps (filter off all)) (sym stays)
-
-  -- each table after has a piece under it
-  pub full_after : (w : View) → HasNoEmptyTable f v → w.pieces ≡ add_pieces f v.pieces (all_pieces f (tiles f x)) →
-      ((p : Position) → IsAmong w.tables p → IsAmong v.tables p ⊎ (IsAmong (tables_of f x) p × (is_spine v.levels p ≡ false))) → HasNoEmptyTable f w
-  full_after w full pieces tables = λ p m. elim (tables p m) [
-    | inl old ↦
-        (let y : (y : Piece) × IsOneOf v.pieces y × (p.base ≤ first_of f y) × (first_of f y < end_of_table f p) = full p old in
-        (y.0, subst (λ (ps : List Piece). IsOneOf ps y.0) (sym pieces) (puts_keep f (all_pieces f (tiles f x)) v.pieces y.0 y.1), y.2, y.3))
-    | inr new ↦
-        (let r = needing f f.levels (tiles f x) p (needs_any f f.levels (tiles f x) p new.0) in
-        let b : Block = r.0 in
-        let t = tile_of good part b r.1 in let to = t.to in let input = part.in_input in
-        let over : position_over f b.first p.level ≡ p = (needs_of_block good b t.legal.a_size (omega arith) p r.2).2 in
-        let base : b.first / pages_of_table f p.level * pages_of_table f p.level ≡ p.base = ap (λ (q : Position). q.base) over in
-        let split = shr_split b.first (f.index * (p.level + 1)) in
-        let rest = mod_below b.first (pages_of_table f p.level) (pow_pos (f.index * (p.level + 1))) in
-        let y : Piece = piece_at b 0 in
-        let first : first_of f y ≡ b.first = omega arith in
-        let here : IsOneOf (pieces_of f b) y = mapped_one (piece_at b) (words_of f b) 0 0 (omega arith) (omega (arith, pow_pos (b.log2 - f.index * level_of_size f b.log2))) in (
-          y,
-          subst (λ (ps : List Piece). IsOneOf ps y) (sym pieces) (puts_there f (all_pieces f (tiles f x)) v.pieces y (piece_of_block f (tiles f x) b y r.1 here)),
-          omega arith,
-          omega arith,
-        ))
-  ]

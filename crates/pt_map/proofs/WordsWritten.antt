@@ -7,7 +7,7 @@ use Rattle.pt_model.specs.declared.position.Position.{Position}
 use Rattle.pt_model.specs.declared.block.Block.{Block}
 use Rattle.pt_model.specs.Layout.{Layout, IsLegalBlock, end_of, level_of_size, pages_of_entry}
 use Rattle.pt_model.specs.Sets.{IsAmong}
-use Rattle.pt_model.specs.Tables.{is_spine, least_top, position_over}
+use Rattle.pt_model.specs.Tables.{is_spine, position_over}
 use Rattle.pt_model.specs.Tiling.{IsTiling}
 use Rattle.pt_model.proofs.Positions.{among_filtered, among_passes}
 use Rattle.pt_model.proofs.TilingFacts.{tiling_is}
@@ -46,9 +46,6 @@ module _ {f : Layout} (good : IsLayout f) {v : View} (b : Block) {level : ℕ} (
       let t : IsTiling f b.prot b.first b.out (end_of b - b.first) (b ∷ []) =
       subst (λ (bs : List Block). IsTiling f b.prot b.first b.out (end_of b - b.first) bs) one (tiling_is f b.prot b.first b.out (end_of b - b.first) good.has_pages (omega arith) part.in_output) in
       t.1.legal
-
-  pub top_reaches : least_top f v.levels (end_of b) ≤ v.top
-  top_reaches = may.stands.top
 
   -- a word of it
   module _ (i : ℕ) (less : i < 2 ^ (b.log2 - f.index * level)) where

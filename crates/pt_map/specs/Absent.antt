@@ -6,7 +6,7 @@ use Rattle.pt_model.specs.Layout.{Layout, pages_of_table}
 use Rattle.pt_model.specs.Sets.{IsAmong, places}
 use Rattle.pt_model.specs.Tables.{end_of_table, is_spine}
 use Rattle.pt_tile.specs.declared.extent.Extent.{Extent}
-use Rattle.pt_tile.specs.Extents.{tables_below}
+use Rattle.pt_tile.specs.Extents.{tables_below, tiles}
 use Rattle.pt_view.specs.declared.view.View.{View}
 use Rattle.pt_view.specs.declared.view.Absence.{Absence}
 use Rattle.pt_view.specs.declared.view.Absence.TheVariants.{Zero, Top}
@@ -14,6 +14,7 @@ use Rattle.pt_walk.specs.Walks.{IsClear, IsFree, IsLowest, OwnsAll}
 use Rattle.pt_view.specs.Loads.{ByLoads}
 use Rattle.pt_map.specs.declared.survey.Found.{Found}
 use Rattle.pt_map.specs.declared.survey.Found.TheVariants.{Mapped, Absent}
+use Rattle.pt_map.specs.Replaced.{HasNoneReplaced}
 use Rattle.pt_map.specs.Stands.{IsExtentAt, IsOwnTable}
 
 -- a load showed that no table is linked at a position: the entry for it, or for one over it, was zero, or the
@@ -50,10 +51,12 @@ pub record MaySurvey (f : Layout) (v : View) (x : Extent) (level cap : ℕ) : Ty
   pub owns : OwnsAll f v
   pub fits : cap ≤ 2 ^ 32
 
--- a look found the lowest mapped page, or that none is mapped and so many of the tables needed below the level are absent
+-- a look found the lowest mapped page, or that none is mapped and so many of the tables needed below the level are absent;
+-- where it says so, no table stands where blocks go
 abbrev pub Finds : Layout → (tells alone : Type 0) → (v w : View) → Extent → (level cap : ℕ) → Found → Type 0
 Finds f tells alone v w x level cap (Mapped page) = IsLowest f v x.first x.end page
-Finds f tells alone v w x level cap (Absent count) = IsFree f v x.first x.end × Counted f tells alone v w (tables_below f x level) cap count
+Finds f tells alone v w x level cap (Absent count tables) =
+    IsFree f v x.first x.end × Counted f tells alone v w (tables_below f x level) cap count × (tables ≡ false → HasNoneReplaced f v (tiles f x))
 
 -- an extent was looked through, from view v to view w: a walk that ends where it began
 pub record Surveyed (f : Layout) (tells alone : Type 0) (v w : View) (x : Extent) (level cap : ℕ) (found : Found) : Type 0 where

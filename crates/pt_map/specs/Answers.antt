@@ -1,5 +1,5 @@
 -- What a map of a range answers, and what it does to a view.
-use Rattle.std.specs.Prelude.{◌≡◌, ◌⊎◌, ℕ, ◌+◌, ◌-◌, ◌/◌, ◌^◌, ◌<◌, ◌≤◌, not, nat_lt, List, ◌++◌, length, filter, map, min, Option, Some, None, Result, Ok, Err}
+use Rattle.std.specs.Prelude.{◌≡◌, ◌⊎◌, ℕ, ◌+◌, ◌-◌, ◌/◌, ◌^◌, ◌<◌, ◌≤◌, not, nat_lt, false, List, ◌++◌, length, filter, map, min, Option, Some, None, Result, Ok, Err}
 use Rattle.pt_model.specs.declared.block.Block.{Block}
 use Rattle.pt_model.specs.declared.block.Prot.{Prot}
 use Rattle.pt_model.specs.declared.position.Position.{Position}
@@ -7,24 +7,19 @@ use Rattle.pt_model.specs.Layout.{Layout}
 use Rattle.pt_model.specs.Book.{Book, MapRefusal, Misaligned, OutsideLease, OutputRange, Occupied, mapped, missing}
 use Rattle.pt_model.specs.Pages.{page_under}
 use Rattle.pt_model.specs.Sets.{IsAmong, places}
-use Rattle.pt_model.specs.Tables.{end_of_table}
 use Rattle.pt_tile.specs.declared.extent.Extent.{Extent}
 use Rattle.pt_tile.specs.Extents.{tiles}
 use Rattle.pt_view.specs.declared.view.View.{View}
-use Rattle.pt_view.specs.declared.view.Piece.{Piece}
 use Rattle.pt_view.specs.declared.view.Absence.{Absence}
 use Rattle.pt_view.specs.declared.view.Change.TheVariants.{Written}
 use Rattle.pt_view.specs.Lists.{IsIn}
-use Rattle.pt_view.specs.Pieces.{IsOneOf, all_pieces, first_of}
+use Rattle.pt_view.specs.Pieces.{all_pieces}
 use Rattle.pt_view.specs.Views.{Aside, IsAtRest, SameRange, SameBook, book_of, linked_count}
 use Rattle.pt_view.specs.Loads.{AddsAbsences}
 use Rattle.pt_map.specs.declared.refused.MapRefused.{MapRefused}
 use Rattle.pt_map.specs.declared.refused.MapRefused.TheVariants as refused
 use Rattle.pt_map.specs.Absent.{is_shown}
-
--- each table of the book has one of its pieces under it
-abbrev pub HasNoEmptyTable : Layout → View → Type 0
-HasNoEmptyTable f v = (p : Position) → IsAmong v.tables p → (x : Piece) × IsOneOf v.pieces x × (p.base ≤ first_of f x) × (first_of f x < end_of_table f p)
+use Rattle.pt_map.specs.Replaced.{is_replaced, replaced}
 
 -- the refusal of the book machine that an answer is; it has none for want of frames
 abbrev pub refusal_of : MapRefused → Option MapRefusal
@@ -62,14 +57,15 @@ pub record FindsAbsent (f : Layout) (tells : Type 0) (v w : View) (blocks : List
   pub shown : tells → (facts : List Absence) × (w.absent ≡ v.absent ++ facts) × (absent ≤ length (filter (is_shown f facts) (unknown f v blocks x)))
 
 -- The frames of a map: those that it drew, no more than the purse lacked for the absent tables, are in front of the old
--- purse, those that it linked are gone from its front, and each of these is for a position that the book lacked and the
--- view didn't know.
+-- purse, and before them those of the tables that its blocks take the place of; those that it linked are gone from the
+-- front, and each of these is for a position that the book lacked and the view didn't know.
 pub record Frames (f : Layout) (tells : Type 0) (v w : View) (blocks : List Block) (x : Extent) : Type 0 where
   pub absent : ℕ
   pub found : FindsAbsent f tells v w blocks x absent
+  pub freed : List ℕ
   pub drawn : List ℕ
   pub linked : List ℕ
-  pub purse : drawn ++ v.purse ≡ linked ++ w.purse
+  pub purse : freed ++ (drawn ++ v.purse) ≡ linked ++ w.purse
   pub few : length linked ≤ length (unknown f v blocks x)
   pub spared : length drawn ≤ absent - length v.purse
 
@@ -84,7 +80,7 @@ pub record IsMapped (f : Layout) (tells : Type 0) (v w : View) (blocks : List Bl
   pub tables : w.tables ≡ (book_with f v blocks x).tables
   pub top : w.top ≡ (book_with f v blocks x).top
   pub frames : Frames f tells v w blocks x
-  pub known : (p : Position) → IsAmong v.known p → IsAmong w.known p
+  pub known : (p : Position) → IsAmong v.known p → is_replaced f (tiles f x) p ≡ false → IsAmong w.known p
   pub busy : (frame : ℕ) → IsIn v.busy frame → IsIn w.busy frame
   pub grew : tells → AddsToHistory v w
   pub stores : tells → w.stores ≡ v.stores ++ map Written (all_pieces f (tiles f x))
@@ -153,10 +149,12 @@ IsShortOf f v linked blocks x (refused.NoFrames absent held) =
     (v.frames < linked + length (lacking f v blocks x)) × (absent ≡ min (v.frames + 1) (length (lacking f v blocks x)))
 IsShortOf f v linked blocks x _ = Unit {0}
 
--- there are frames for the linked and the lacking positions, and these are linked after
+-- There are frames for the linked and the lacking positions. These are linked after, the tables that blocks take the place
+-- of aren't, and no frame is lost.
 pub record LinksAll (f : Layout) (v w : View) (aside : Aside) (blocks : List Block) (x : Extent) : Type 0 where
   pub enough : linked_count v aside + length (lacking f v blocks x) ≤ v.frames
-  pub linked : linked_count w aside ≡ linked_count v aside + length (lacking f v blocks x)
+  pub linked : linked_count w aside + length (replaced f v (tiles f x)) ≡ linked_count v aside + length (lacking f v blocks x)
+  pub none_lost : length v.purse + length (replaced f v (tiles f x)) ≤ length w.purse + length (lacking f v blocks x)
 
 -- the account of frames over a lone holder, which has set this aside
 abbrev pub Accounts : Layout → (v w : View) → Aside → Extent → Result (Unit {0}) MapRefused → Type 0

@@ -1,10 +1,10 @@
 -- What the writing of an extent does to a view.
-use Rattle.std.specs.Prelude.{◌≡◌, ◌⊎◌, ◌↔◌, ℕ, ◌+◌, ◌-◌, ◌<◌, ◌≤◌, List, [], ◌∷◌, ◌++◌, length, map, false, None}
+use Rattle.std.specs.Prelude.{◌≡◌, ◌⊎◌, ◌↔◌, ℕ, ◌+◌, ◌-◌, ◌<◌, ◌≤◌, List, [], ◌∷◌, ◌++◌, length, map, max, fold, false, None}
 use Rattle.pt_model.specs.declared.block.Block.{Block}
 use Rattle.pt_model.specs.declared.position.Position.{Position}
 use Rattle.pt_model.specs.Layout.{Layout, end_of, input_pages, level_of_size}
 use Rattle.pt_model.specs.Sets.{AddsPositions, IsAmong, IsSorted}
-use Rattle.pt_model.specs.Tables.{is_spine, position_over}
+use Rattle.pt_model.specs.Tables.{is_spine, least_top, position_over}
 use Rattle.pt_tile.specs.declared.extent.Extent.{Extent}
 use Rattle.pt_tile.specs.Extents.{IsOneBlock, blocks_of, extent_of, tables_below, tables_of, tiles}
 use Rattle.pt_view.specs.declared.view.View.{View}
@@ -90,13 +90,17 @@ pub record Spends (v w : View) (lacking still : List Position) : Type 0 where
 abbrev pub SpendsOn : (v w : View) → (needed : List Position) → Type 0
 SpendsOn v w needed = (lacking : List Position) → HasRoom v needed lacking → (still : List Position) × Spends v w lacking still
 
+-- the top, where it reaches over blocks
+abbrev pub top_with : Layout → (levels top : ℕ) → List Block → ℕ
+top_with f levels top blocks = fold (λ (t : ℕ) (b : Block). max t (least_top f levels (end_of b))) top blocks
+
 -- blocks were written: their pieces are among the pieces, and the positions that they need among the tables
 pub record Filled (f : Layout) (tells : Type 0) (v w : View) (blocks : List Block) (needed : List Position) : Type 0 where
   pub range : SameRange v w
   pub path : w.path ≡ v.path
   pub prepared : w.prepared ≡ v.prepared
   pub end : w.end ≡ v.end
-  pub top : w.top ≡ v.top
+  pub top : w.top ≡ top_with f v.levels v.top blocks
   pub pieces : w.pieces ≡ add_pieces f v.pieces (all_pieces f blocks)
   pub tables : (p : Position) → IsAmong w.tables p ↔ (IsAmong v.tables p ⊎ (IsAmong needed p × (is_spine v.levels p ≡ false)))
   pub in_order : IsSorted v.tables → IsSorted w.tables

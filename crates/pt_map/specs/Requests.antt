@@ -7,7 +7,7 @@ use Rattle.pt_model.specs.Layout.{Layout}
 use Rattle.pt_model.specs.Book.{Book, IsLawful, MapRefusal, Occupied, lowest_mapped, map_refusal}
 use Rattle.pt_model.specs.Pages.{byte_at}
 use Rattle.pt_model.specs.Sets.{IsAmong, IsSorted, places}
-use Rattle.pt_model.specs.Tables.{IsPosition, is_spine}
+use Rattle.pt_model.specs.Tables.{is_spine}
 use Rattle.pt_tile.specs.declared.extent.Extent.{Extent}
 use Rattle.pt_tile.specs.Extents.{IsExtent, tables_below, tables_of, tiles}
 use Rattle.pt_view.specs.declared.view.View.{View}
@@ -18,10 +18,13 @@ use Rattle.pt_view.specs.Pieces.{add_pieces, all_pieces}
 use Rattle.pt_view.specs.Views.{IsAtRest, SameRange, book_of}
 use Rattle.pt_walk.specs.Walks.{IsClear, IsFree, IsLowest, OwnsAll, Rests}
 use Rattle.pt_sweep.specs.Draws.{KeepsBook, SamePlace}
+use Rattle.pt_sweep.specs.Sweeps.{IsBookTable}
 use Rattle.pt_map.specs.declared.refused.MapRefused.{MapRefused}
 use Rattle.pt_map.specs.declared.refused.MapRefused.TheVariants as refused
 use Rattle.pt_map.specs.Absent.{Counted, IsMissing, is_shown}
-use Rattle.pt_map.specs.Answers.{FindsEach, HasNoEmptyTable, IsRefused, KeepsPurse, extent_at, refusal_of}
+use Rattle.pt_map.specs.Answers.{FindsEach, IsRefused, KeepsPurse, extent_at, refusal_of}
+use Rattle.pt_map.specs.Filled.{top_with}
+use Rattle.pt_map.specs.Replaced.{is_replaced, replaced}
 use Rattle.pt_map.specs.Stands.{IsOwnTable, StandsAt}
 
 -- The numbers of a request.
@@ -60,7 +63,6 @@ pub record IsRequested (f : Layout) (first count va pa len : ℕ) (prot : Prot) 
 pub record MayMap (f : Layout) (v : View) (x : Extent) : Type 0 where
   pub inside : IsInside f v.first v.count x
   pub rest : Rests f v
-  pub full : HasNoEmptyTable f v
   pub levels : f.start ≤ v.levels
   pub lawful : (blocks : List Block) → IsAtRest f v blocks → IsLawful f v.levels (book_of v blocks)
 
@@ -109,8 +111,9 @@ pub record MayMapBelow (f : Layout) (v : View) (x : Extent) (level : ℕ) : Type
   pub stands : StandsAt f v x level
   pub owns : OwnsAll f v
   pub clear : IsClear f v x.first x.end level
-  pub positions : (p : Position) → IsAmong v.tables p → IsPosition f p
-  pub full : HasNoEmptyTable f v
+  pub levels : f.start ≤ v.levels
+  pub tables : (p : Position) → IsAmong v.tables p → IsBookTable f v p
+  pub once : (p : Position) → places p v.tables < 2
 
 -- Needed positions that were found absent, each once: none is a table of the book, of the spine or known, and over a lone
 -- holder those that aren't among them are tables of the book or of the spine.
@@ -120,15 +123,18 @@ pub record AreAbsent (alone : Type 0) (v : View) (needed absent : List Position)
   pub all : alone → (p : Position) → IsAmong needed p → IsAmong absent p ⊎ IsOwnTable v p
 
 -- An extent was mapped, from view v to view w. Frames were drawn for the absent tables, no more than the purse lacked, and
--- no more were linked; over a lone holder there were frames for all that is linked before and for these tables. Where it
--- is told what loads showed, each of these tables was shown absent.
+-- no more were linked; over a lone holder there were frames for all that is linked before and for these tables. The tables
+-- that blocks take the place of are gone, and their frames came in front of the purse before one was linked. Where it is
+-- told what loads showed, each of the absent tables was shown absent.
 pub record MappedBelow (f : Layout) (tells alone : Type 0) (linked : ℕ) (v w : View) (x : Extent) (level : ℕ) : Type 0 where
   pub free : IsFree f v x.first x.end
   pub absent : List Position
   pub are_absent : AreAbsent alone v (tables_below f x level) absent
+  pub freed : List ℕ
   pub drawn : List ℕ
   pub used : List ℕ
-  pub purse : drawn ++ v.purse ≡ used ++ w.purse
+  pub purse : freed ++ (drawn ++ v.purse) ≡ used ++ w.purse
+  pub back : alone → length freed ≡ length (replaced f v (tiles f x))
   pub spared : length drawn ≤ length absent - length v.purse
   pub few : length used ≤ length absent
   pub capped : length absent ≤ v.frames
@@ -137,12 +143,13 @@ pub record MappedBelow (f : Layout) (tells alone : Type 0) (linked : ℕ) (v w :
   pub path : w.path ≡ v.path
   pub prepared : w.prepared ≡ v.prepared
   pub end : w.end ≡ v.end
-  pub top : w.top ≡ v.top
+  pub top : w.top ≡ top_with f v.levels v.top (tiles f x)
   pub pieces : w.pieces ≡ add_pieces f v.pieces (all_pieces f (tiles f x))
-  pub tables : (p : Position) → IsAmong w.tables p ↔ (IsAmong v.tables p ⊎ (IsAmong (tables_of f x) p × (is_spine v.levels p ≡ false)))
+  pub tables : (p : Position) → IsAmong w.tables p ↔
+      ((IsAmong v.tables p × (is_replaced f (tiles f x) p ≡ false)) ⊎ (IsAmong (tables_of f x) p × (is_spine v.levels p ≡ false)))
   pub in_order : IsSorted v.tables → IsSorted w.tables
   pub busy : (frame : ℕ) → IsIn v.busy frame → IsIn w.busy frame
-  pub known : (p : Position) → IsAmong v.known p → IsAmong w.known p
+  pub known : (p : Position) → IsAmong v.known p → is_replaced f (tiles f x) p ≡ false → IsAmong w.known p
   pub shown : tells → (facts : List Absence) × (w.absent ≡ v.absent ++ facts) × ((p : Position) → IsAmong absent p → IsTrue (is_shown f facts p))
   pub taken : tells → (lost : List ℕ) × (w.taken ≡ v.taken ++ lost)
   pub stores : tells → w.stores ≡ v.stores ++ map Written (all_pieces f (tiles f x))

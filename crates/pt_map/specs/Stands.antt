@@ -23,14 +23,14 @@ pub record IsEntryExtent (f : Layout) (x : Extent) (level : ℕ) : Type 0 where
   pub lower : first_size f x < f.index * level
 
 -- the way from the root down stands there: the path's tables are those over the extent, from the root's level down to this
--- one, nothing is prepared, and the top reaches over the extent
+-- one, nothing is prepared, and the root reaches over the extent
 pub record StandsAt (f : Layout) (v : View) (x : Extent) (level : ℕ) : Type 0 where
   pub at : IsExtentAt f v x level
   pub way : IsWayDown f x.first (length v.path + level) v.path
   pub high : v.top < length v.path + level
   pub below : length v.path + level ≤ f.levels
   pub none : v.prepared ≡ None
-  pub top : least_top f v.levels x.end ≤ v.top
+  pub reach : least_top f v.levels x.end < length v.path + level
 
 -- a table at a position is one of the book or of the spine
 abbrev pub IsOwnTable : View → Position → Type 0

@@ -5,9 +5,11 @@
 //! that of the book machine, whatever other holders do between its steps. It takes no memory.
 #![tactic(auto)]
 
+mod beyond;
 mod entry;
 mod fill;
 mod refused;
+mod replace;
 mod request;
 mod survey;
 

@@ -6,18 +6,19 @@ ghost use Rattle.pt_model.specs.Layout.{input_pages};
 ghost use Rattle.pt_tile.specs.Extents as extents;
 ghost use Rattle.pt_view.specs.Views.{Stays, linked_count};
 ghost use Rattle.pt_walk.specs.Walks.{Rests};
-ghost use Rattle.pt_map.specs.Answers.{Accounts, Answers, HasNoEmptyTable, extent_at};
+ghost use Rattle.pt_map.specs.Answers.{Accounts, Answers, extent_at};
 ghost use Rattle.pt_map.specs.Stands.{IsBlockOf};
 ghost use Rattle.pt_map.specs.Requests.{EndsBelow, Gathers, IsRefusedByNumbers, IsRequested, MayMap, MayMapBelow, occupied};
 
 use crate::fill::{fill, write_entry, write_run};
 use crate::refused::MapRefused;
+use crate::replace::make_way;
 use crate::survey::{Found, survey};
 use pt_format::{Format, Prot, Span, byte_of, is_whole, range_of};
 use pt_sweep::draw;
 use pt_tile::Extent;
 use pt_view::Holder;
-use pt_walk::{climb, descend, first_at, first_below};
+use pt_walk::{Under, climb, descend, first_at, first_below};
 
 /// The extent that a request is, where its range may be mapped in a span by its numbers alone.
 fn extent_in<F: Format>(
@@ -93,8 +94,9 @@ fn map_below<F: Format, H: Holder<F>>(
         Found::Mapped { page } => Err(MapRefused::Occupied {
             address: byte_of::<F>(page),
         }),
-        Found::Absent { count } => {
+        Found::Absent { count, tables } => {
             gather::<F, H>(holder, count)?;
+            make_way::<F, H>(holder, level, extent, tables);
             fill::<F, H>(holder, level, extent);
             Ok(())
         }
@@ -115,13 +117,15 @@ fn map_entries<F: Format, H: Holder<F>>(
     ensures ends { EndsBelow F.layout H.tells (H.alone holder.old) (linked_count (H.view holder.old) (H.aside holder.old))
         (H.view holder.old) (H.view holder.new) extent level result }
 {
-    if let Some(taken) = first_below::<F, H>(holder, level, extent.first, extent.end) {
+    let under = first_below::<F, H>(holder, level, extent.first, extent.end);
+    if let Under::Mapped { page } = under {
         return Err(MapRefused::Occupied {
-            address: byte_of::<F>(taken),
+            address: byte_of::<F>(page),
         });
     }
     // what the purse tells of the account of frames is part of the answer
     let _held = holder.purse();
+    make_way::<F, H>(holder, level, extent, under.has_tables());
     let run = F::word_run(level, log2, extent.out, extent.prot, 1);
     write_run::<F, H>(holder, level, extent.block(log2), run);
     Ok(())
@@ -142,13 +146,15 @@ fn map_entry<F: Format, H: Holder<F>>(
     ensures ends { EndsBelow F.layout H.tells (H.alone holder.old) (linked_count (H.view holder.old) (H.aside holder.old))
         (H.view holder.old) (H.view holder.new) extent level result }
 {
-    if let Some(taken) = first_at::<F, H>(holder, level, extent.first, extent.end) {
+    let under = first_at::<F, H>(holder, level, extent.first, extent.end);
+    if let Under::Mapped { page } = under {
         return Err(MapRefused::Occupied {
-            address: byte_of::<F>(taken),
+            address: byte_of::<F>(page),
         });
     }
     // what the purse tells of the account of frames is part of the answer
     let _held = holder.purse();
+    make_way::<F, H>(holder, level, extent, under.has_tables());
     write_entry::<F, H>(holder, level, extent.block(log2));
     Ok(())
 }
@@ -210,7 +216,6 @@ fn map_extent<F: Format, H: Holder<F>>(
     requires whole { IsTrue whole → (F.layout.index * (log2 / F.layout.index) ≡ log2) × (extent.end ≡ extent.first + 2 ^ log2) }
     ensures stays { Stays H.space H.aside H.alone holder.old holder.new }
     ensures rests { Rests F.layout (H.view holder.new) }
-    ensures full { HasNoEmptyTable F.layout (H.view holder.new) }
     ensures answered { Answers F.layout H.tells (H.view holder.old) (H.view holder.new) (occupied F.layout extent) extent result }
     ensures accounted { H.alone holder.old → Accounts F.layout (H.view holder.old) (H.view holder.new) (H.aside holder.old) extent result }
 {
@@ -229,7 +234,8 @@ fn map_extent<F: Format, H: Holder<F>>(
 }
 
 /// Maps the `len` bytes from input address `va` onto those from output address `pa`. The book gets the blocks
-/// of the one tiling of the range and the tables that they need, which are linked where they are absent.
+/// of the one tiling of the range and the tables that they need, which are linked where they are absent. Tables in which
+/// no page is mapped may stand where blocks go: they are unlinked first, and their frames are in the purse.
 ///
 /// Refused, in this order: `Misaligned` where one of the three numbers isn't of whole pages or the length is 0,
 /// `OutsideLease` where the input range isn't inside the span, `OutputRange` where the output range ends past
@@ -247,10 +253,8 @@ pub fn map<F: Format, H: Holder<F>>(
     requires rest { Rests F.layout (H.view holder.old) }
     requires stated { IsTrue (F.layout.states prot) }
     requires fixed { F.layout.grows ≡ false }
-    requires full { HasNoEmptyTable F.layout (H.view holder.old) }
     ensures stays { Stays H.space H.aside H.alone holder.old holder.new }
     ensures rests { Rests F.layout (H.view holder.new) }
-    ensures full { HasNoEmptyTable F.layout (H.view holder.new) }
     ensures answered { Answers F.layout H.tells (H.view holder.old) (H.view holder.new) (λ book. map_refusal F.layout book va pa len)
         (extent_at F.layout va pa len prot) result }
     ensures accounted { H.alone holder.old →

@@ -14,7 +14,7 @@ use pt_format::Format;
 use pt_num::Span;
 use pt_tile::{Extent, tables_needed};
 use pt_view::{Holder, Seen};
-use pt_walk::{entry_number, first_below};
+use pt_walk::{Under, entry_number, first_below};
 
 /// How many of the tables below a level that an extent under one entry needs there are, where none is linked
 /// under that entry; `cap` where there are more. The entry is one of a table of that level.
@@ -41,8 +41,8 @@ pub(crate) enum Found {
     /// Its lowest page that is mapped.
     Mapped { page: u64 },
     /// No page of it is mapped, and so many of the tables that it needs below the level are absent; the cap where
-    /// there are more.
-    Absent { count: u64 },
+    /// there are more. Whether tables may stand where its blocks go.
+    Absent { count: u64, tables: bool },
 }
 
 /// What was gone through of an extent: the pages before `to`, where this was found.
@@ -60,8 +60,15 @@ fn look<F: Format, H: Holder<F>>(holder: &mut H, level: u32, extent: Extent, cap
     ensures surveyed { Surveyed F.layout H.tells (H.alone holder.old) (H.view holder.old) (H.view holder.new) extent level cap result }
 {
     match first_below::<F, H>(holder, level, extent.first, extent.end) {
-        Some(page) => Found::Mapped { page },
-        None => Found::Absent { count: 0 },
+        Under::Mapped { page } => Found::Mapped { page },
+        Under::Tables => Found::Absent {
+            count: 0,
+            tables: true,
+        },
+        Under::Nothing => Found::Absent {
+            count: 0,
+            tables: false,
+        },
     }
 }
 
@@ -82,15 +89,22 @@ pub(crate) fn survey<F: Format, H: Holder<F>>(
     }
     let mut rest = extent;
     let mut absent = 0;
+    let mut over_tables = false;
     while rest.first < rest.end {
         let looked = survey_first::<F, H>(holder, level, rest, cap);
         match looked.found {
             Found::Mapped { page } => return Found::Mapped { page },
-            Found::Absent { count } => absent = u64::min(cap, absent + count),
+            Found::Absent { count, tables } => {
+                absent = u64::min(cap, absent + count);
+                over_tables |= tables;
+            }
         }
         rest = rest.from(looked.to);
     }
-    Found::Absent { count: absent }
+    Found::Absent {
+        count: absent,
+        tables: over_tables,
+    }
 }
 
 /// The same, for the blocks of the first one's size that come first of an extent, where they stand in the path's
@@ -139,6 +153,7 @@ fn survey_under<F: Format, H: Holder<F>>(
     match holder.enter(entry_number::<F>(level, extent.first)) {
         Seen::Empty => Found::Absent {
             count: needed_below::<F>(extent, level, cap),
+            tables: false,
         },
         Seen::Leaf(_) => Found::Mapped { page: extent.first },
         Seen::Entered => {

@@ -1,10 +1,10 @@
 -- Pieces that are apart, and those of them that begin in a range.
-use Rattle.std.proofs.Common.{◌≡◌, ◌⊎◌, ℕ, ◌+◌, ◌-◌, ◌*◌, ◌^◌, ◌<◌, ◌≤◌, Bool, true, false, List, [], ◌∷◌, ◌++◌, inl, inr, refl, ap, sym, subst, ◌∙◌, arith}
-use Rattle.std.specs.Prelude.{◌&&◌, ◌||◌, not, filter, max, nat_le, nat_lt}
+use Rattle.std.proofs.Common.{◌≡◌, ℕ, ◌+◌, ◌-◌, ◌*◌, ◌<◌, ◌≤◌, Bool, true, false, List, [], ◌∷◌, ◌++◌, inl, inr, refl, ap, sym, subst, ◌∙◌, arith}
+use Rattle.std.specs.Prelude.{◌||◌, not, filter, max, nat_le}
 use Rattle.std.proofs.lemmas.List.{append-nil}
-use Rattle.std.proofs.lemmas.Bool.{and_from, and_parts, cases_Bool, cases_lt, false_from_ne_true, false≢true, leb-true, le-leb, ltb-true, lt-ltb}
+use Rattle.std.proofs.lemmas.Bool.{and_from, and_parts, cases_Bool, cases_lt, false_from_ne_true, leb-true, le-leb, ltb-true, lt-ltb}
 use Rattle.std.proofs.lemmas.Nat.{pow_pos}
-use Rattle.pt_model.specs.Layout.{Layout, pages_of_entry}
+use Rattle.pt_model.specs.Layout.{Layout}
 use Rattle.pt_model.proofs.Positions.{filter_in, filter_out}
 use Rattle.pt_view.specs.declared.view.Piece.{Piece}
 use Rattle.pt_view.specs.Pieces.{IsOneOf, IsUnderPiece, first_of, level_of}
@@ -185,7 +185,7 @@ split f first at next from (x ∷ xs) low high apart =
       | inr e ↦ elim (cases_Bool (b x)) [
         | inl g ↦ (
             let none : filter a xs ≡ [] = filter_none a xs (λ y m. begins_not f first at y (λ l h.
-              let from = apart_from f (end_of_piece f x) xs y apart.1 m in let here = (begins_tells f at next x g).0 in let long = piece_long f x in omega arith)) in
+            let from = apart_from f (end_of_piece f x) xs y apart.1 m in let here = (begins_tells f at next x g).0 in let long = piece_long f x in omega arith)) in
             filter_in c x xs (either ∙ or_last (a x) (b x) g) ∙ ap (λ (ys : List Piece). x ∷ ys) (rest ∙ ap (λ (ys : List Piece). ys ++ filter b xs) none)
             ∙ sym ((λ i. filter_out a x xs e i ++ filter_in b x xs g i) ∙ ap (λ (ys : List Piece). ys ++ (x ∷ filter b xs)) none))
         | inr g ↦
@@ -209,10 +209,10 @@ only_one f first end from (y ∷ ys) x apart (inl is) e same =
     let here : begins_in f first end y ≡ true = ap (begins_in f first end) is ∙ e in
     filter_in (begins_in f first end) y ys here
     ∙ (λ i. is i ∷ filter_none (begins_in f first end) ys (λ z m. false_from_ne_true (begins_in f first end z) (λ g.
-      let a = same z (inr m) g in let b = apart_from f (end_of_piece f y) ys z apart.1 m in let c = ap (first_of f) is in let long = piece_long f y in omega arith)) i)
+    let a = same z (inr m) g in let b = apart_from f (end_of_piece f y) ys z apart.1 m in let c = ap (first_of f) is in let long = piece_long f y in omega arith)) i)
 only_one f first end from (y ∷ ys) x apart (inr more) e same =
     filter_out (begins_in f first end) y ys (false_from_ne_true (begins_in f first end y) (λ g.
-      let a = same y (inl refl) g in let b = apart_from f (end_of_piece f y) ys x apart.1 more in let long = piece_long f y in omega arith))
+    let a = same y (inl refl) g in let b = apart_from f (end_of_piece f y) ys x apart.1 more in let long = piece_long f y in omega arith))
     ∙ only_one f first end (end_of_piece f y) ys x apart.1 more e (λ z m g. same z (inr m) g)
 
 -- the pages under those that begin in a range are no more than it has

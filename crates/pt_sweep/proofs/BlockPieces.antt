@@ -1,10 +1,10 @@
 -- The pieces of a book's blocks: they are apart, and those that begin in a range that cuts no block are the blocks' in it.
-use Rattle.std.proofs.Common.{◌≡◌, ◌⊎◌, ℕ, zero, suc, ◌+◌, ◌-◌, ◌*◌, ◌^◌, ◌<◌, ◌≤◌, Bool, true, false, List, [], ◌∷◌, ◌++◌, inl, inr, refl, ap, sym, subst, ◌∙◌, arith}
-use Rattle.std.specs.Prelude.{◌&&◌, not, filter, map, nat_le, nat_lt, length, slice_index_or, All, AllPairs, Contains}
+use Rattle.std.proofs.Common.{◌≡◌, ◌⊎◌, ℕ, zero, suc, ◌+◌, ◌-◌, ◌*◌, ◌^◌, ◌≤◌, Bool, true, false, List, [], ◌∷◌, ◌++◌, inl, inr, refl, ap, sym, subst, ◌∙◌, arith}
+use Rattle.std.specs.Prelude.{not, filter, map, nat_le, nat_lt, AllPairs, Contains}
 use Rattle.std.specs.List.{range_with_len}
 use Rattle.std.proofs.lemmas.List.Elements.{filter-append}
-use Rattle.std.proofs.lemmas.Bool.{and_from, and_parts, cases_Bool, cases_lt, false_from_ne_true, false≢true, leb-true, le-leb, ltb-true, lt-ltb}
-use Rattle.std.proofs.lemmas.Nat.{pow-add, pow_pos}
+use Rattle.std.proofs.lemmas.Bool.{and_from, and_parts, cases_Bool, cases_lt, false≢true, leb-true, lt-ltb}
+use Rattle.std.proofs.lemmas.Nat.{pow-add}
 use Rattle.pt_model.specs.declared.block.Block.{Block}
 use Rattle.pt_model.specs.Layout.{Layout, end_of, level_of_size, pages, pages_of_entry}
 use Rattle.pt_model.specs.Book.{lies_in, meets}
@@ -14,7 +14,7 @@ use Rattle.pt_model.proofs.Quotients.{size_split}
 use Rattle.pt_format.specs.Laws.{IsLayout}
 use Rattle.pt_view.specs.declared.view.Piece.{Piece}
 use Rattle.pt_view.specs.Pieces.{IsOneOf, all_pieces, first_of, level_of, pieces_of, words_of}
-use Rattle.pt_view.proofs.Members.{in_block, in_blocks, one_of_either, piece_at}
+use Rattle.pt_view.proofs.Members.{in_block, one_of_either, piece_at}
 use Rattle.pt_sweep.specs.Sweeps.{AreApart, IsUncut, begins_in, end_of_piece, pages_under}
 use Rattle.pt_sweep.proofs.Apart.{apart_wider, begins_is, begins_not, filter_all, filter_none, pages_append, piece_long}
 
@@ -87,13 +87,16 @@ module _ (f : Layout) (good : IsLayout f) where
     pub uncut_tells : (b : Block) → is_cut first end b ≡ false → (lies_in first end b ≡ true) ⊎ ((lies_in first end b ≡ false) × ((end ≤ b.first) ⊎ (end_of b ≤ first)))
     uncut_tells b none = elim (cases_Bool (lies_in first end b)) [
       | inl inside ↦ inl inside
-      | inr out ↦ inr (out, elim (cases_lt b.first end) [
-        | inr behind ↦ inl behind
-        | inl low ↦ elim (cases_lt first (end_of b)) [
-          | inr before ↦ inr before
-          | inl high ↦ absurd (false≢true (sym none ∙ and_from (meets first end b) _ (and_from (nat_lt b.first end) _ (lt-ltb b.first end low) (lt-ltb first (end_of b) high)) (ap not out)))
-        ]
-      ])
+      | inr out ↦ inr (
+        out,
+        elim (cases_lt b.first end) [
+          | inr behind ↦ inl behind
+          | inl low ↦ elim (cases_lt first (end_of b)) [
+            | inr before ↦ inr before
+            | inl high ↦ absurd (false≢true (sym none ∙ and_from (meets first end b) _ (and_from (nat_lt b.first end) _ (lt-ltb b.first end low) (lt-ltb first (end_of b) high)) (ap not out)))
+          ]
+        ],
+      )
     ]
 
     lies_tells : (b : Block) → lies_in first end b ≡ true → (first ≤ b.first) × (end_of b ≤ end)

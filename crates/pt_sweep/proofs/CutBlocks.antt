@@ -1,6 +1,6 @@
 -- The blocks that a range cuts: they are over its first page or its last.
-use Rattle.std.proofs.Common.{◌≡◌, ◌⊎◌, ℕ, zero, suc, ◌+◌, ◌-◌, ◌^◌, ◌<◌, ◌≤◌, Bool, true, false, List, [], ◌∷◌, inl, inr, refl, ap, sym, subst, ◌∙◌, arith}
-use Rattle.std.specs.Prelude.{◌&&◌, not, find, nat_le, nat_lt, length, slice_index_or, AllPairs, Contains, None, Option, Some, if◌then◌else◌}
+use Rattle.std.proofs.Common.{◌≡◌, ◌⊎◌, ℕ, zero, suc, ◌+◌, ◌-◌, ◌<◌, ◌≤◌, Bool, true, false, List, [], ◌∷◌, inl, inr, refl, ap, sym, subst, ◌∙◌, arith}
+use Rattle.std.specs.Prelude.{◌&&◌, not, find, nat_le, nat_lt, AllPairs, Contains, None, Some}
 use Rattle.std.proofs.lemmas.Bool.{and_from, and_parts, cases_Bool, cases_lt, false_from_ne_true, false≢true, leb-true, le-leb, ltb-true, lt-ltb}
 use Rattle.std.proofs.lemmas.Nat.{pow_pos}
 use Rattle.pt_model.specs.declared.block.Block.{Block}
@@ -74,14 +74,17 @@ module _ (first end : ℕ) where
   pub cut_tells : (b : Block) → is_cut first end b ≡ true → (b.first < end) × (first < end_of b) × ((b.first < first) ⊎ (end < end_of b))
   cut_tells b e =
       let h = and_parts (meets first end b) _ e in
-      let m = meets_tells first end b h.0 in
-      (m.0, m.1, elim (cases_lt b.first first) [
-        | inl before ↦ inl before
-        | inr from ↦ elim (cases_lt end (end_of b)) [
-          | inl past ↦ inr past
-          | inr to ↦ absurd (false≢true (sym (ap not (and_from (nat_le first b.first) _ (le-leb first b.first from) (le-leb (end_of b) end to))) ∙ h.1))
-        ]
-      ])
+      let m = meets_tells first end b h.0 in (
+        m.0,
+        m.1,
+        elim (cases_lt b.first first) [
+          | inl before ↦ inl before
+          | inr from ↦ elim (cases_lt end (end_of b)) [
+            | inl past ↦ inr past
+            | inr to ↦ absurd (false≢true (sym (ap not (and_from (nat_le first b.first) _ (le-leb first b.first from) (le-leb (end_of b) end to))) ∙ h.1))
+          ]
+        ],
+      )
 
   -- the block over a page of it, where the range cuts that
   abbrev over : ℕ → Block → Bool
@@ -98,15 +101,16 @@ module _ (first end : ℕ) where
       | inl e ↦ (
           let s : Some c ≡ Some b = sym (rw e refl) ∙ found in
           let is : c ≡ b = cc in
-          let m = meets_tells page (page + 1) c e in let low = m.0 in let high = m.1 in
-          (λ out. (
-              let here : over page c ≡ true = and_from (meets page (page + 1) c) _ e (cut_is c (omega arith) (omega arith) (subst (λ (d : Block). (d.first < first) ⊎ (end < end_of d)) (sym is) out)) in
-              let x : find (over page) (c ∷ bs) ≡ Some c = rw here refl in x ∙ s),
+          let m = meets_tells page (page + 1) c e in let low = m.0 in let high = m.1 in (
+            λ out. (
+                let here : over page c ≡ true = and_from (meets page (page + 1) c) _ e (cut_is c (omega arith) (omega arith) (subst (λ (d : Block). (d.first < first) ⊎ (end < end_of d)) (sym is) out)) in
+                let x : find (over page) (c ∷ bs) ≡ Some c = rw here refl in x ∙ s),
             λ never. finds_none (over page) (c ∷ bs) (λ d h. false_from_ne_true (over page d) (λ o.
-              let p = and_parts (meets page (page + 1) d) _ o in
-              let n = meets_tells page (page + 1) d p.0 in
-              first_alone h d n (cut_tells d p.1).2 (λ same. never (subst (λ (d : Block). (d.first < first) ⊎ (end < end_of d)) (same ∙ is) (cut_tells d p.1).2)) high)))
-        )
+                let p = and_parts (meets page (page + 1) d) _ o in
+                let n = meets_tells page (page + 1) d p.0 in
+                first_alone h d n (cut_tells d p.1).2 (λ same. never (subst (λ (d : Block). (d.first < first) ⊎ (end < end_of d)) (same ∙ is) (cut_tells d p.1).2)) high)),
+          )
+          )
       | inr e ↦ (
           let r = over_found bs (later c bs order) b (sym (rw e refl) ∙ found) in
           let not_here : over page c ≡ false = false_from_ne_true (over page c) (λ o. false≢true (sym e ∙ (and_parts (meets page (page + 1) c) _ o).0)) in

@@ -1,5 +1,8 @@
 -- Facts for other crates: frames that are drawn one after another.
 pub mod Drawn
+-- tables that are unlinked one after another, and those that lie in a range without pieces
+pub mod Empties
+pub mod EmptyTables
 -- pieces that are apart; sweeps one after another; the tables and the pieces of a range, entry by entry
 mod Apart
 mod Sweeps
@@ -12,3 +15,5 @@ mod BookTables
 mod RangeNumbers
 mod CutBlocks
 mod Unmapped
+-- and a root that is raised level by level
+mod RootRaised

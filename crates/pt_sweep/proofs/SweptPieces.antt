@@ -1,14 +1,13 @@
 -- The pieces that go: the one of a leaf, and those of a run of pages.
-use Rattle.std.proofs.Common.{◌≡◌, ℕ, zero, suc, ◌+◌, ◌-◌, ◌*◌, ◌/◌, ◌%◌, ◌^◌, ◌<◌, ◌≤◌, Bool, true, false, List, [], ◌∷◌, ◌++◌, length, inl, inr, refl, ap, sym, subst, ◌∙◌, arith}
-use Rattle.std.specs.Prelude.{IsTrue, ◌&&◌, ◌||◌, ◌==◌, not, filter, map, nat_le, nat_lt}
-use Rattle.std.proofs.lemmas.Bool.{and_from, cases_Bool, cases_lt, false_from_ne_true, false≢true, le-leb, lt-ltb}
+use Rattle.std.proofs.Common.{◌≡◌, ℕ, zero, suc, ◌+◌, ◌-◌, ◌*◌, ◌/◌, ◌^◌, ◌<◌, ◌≤◌, Bool, true, false, List, [], ◌∷◌, ◌++◌, length, inl, inr, refl, ap, sym, subst, ◌∙◌, arith}
+use Rattle.std.specs.Prelude.{◌&&◌, ◌||◌, ◌==◌, not, filter, map, nat_le}
+use Rattle.std.proofs.lemmas.Bool.{and_from, cases_Bool, false_from_ne_true, false≢true, le-leb}
 use Rattle.std.proofs.lemmas.Nat.{shr_split, pow_pos, mod_below}
 use Rattle.std.proofs.Math.Pow.{pow_mono}
 use mathlib.Core.Logic.{dite}
 use native.Mathlib.Decide.{ℕ_discrete}
 use Rattle.pt_model.specs.declared.position.Position.{Position}
 use Rattle.pt_model.specs.Layout.{Layout, pages_of_entry, pages_of_table}
-use Rattle.pt_model.specs.Sets.{IsAmong}
 use Rattle.pt_model.specs.Tables.{is_same, position_over}
 use Rattle.pt_model.proofs.Positions.{bit_le, filter_members}
 use Rattle.pt_model.proofs.Quotients.{over_from}
@@ -21,8 +20,8 @@ use Rattle.pt_view.specs.declared.holder.Seen.{Seen}
 use Rattle.pt_view.specs.declared.holder.Seen.TheVariants.{Leaf}
 use Rattle.pt_view.specs.Pieces.{IsOneOf, IsUnderPiece, entry_number, first_of, level_of, number_of, table_of}
 use Rattle.pt_view.specs.Loads.{IsOver}
-use Rattle.pt_view.specs.Calls.{IsCleared, IsEntryAt, MayClear, MayDrop, drop_at, entry_end, entry_first, is_in_span, lowest, pieces_at}
-use Rattle.pt_view.specs.Runs.{IsClearedRun, MayClearRun, drop_run, keep_at, keep_run, stands_outside}
+use Rattle.pt_view.specs.Calls.{IsCleared, MayClear, MayDrop, drop_at, entry_end, entry_first, lowest, pieces_at}
+use Rattle.pt_view.specs.Runs.{IsClearedRun, MayClearRun, keep_run, stands_outside}
 use Rattle.pt_view.proofs.Entries.{at_entry, from_first, number_within, to_end}
 use Rattle.pt_view.proofs.Loads.{IsLoad, absences_here, absences_on, leaf_loads, load_leaf}
 use Rattle.pt_view.proofs.Pieces.{first_whole, has_page_here, stands_here}
@@ -32,7 +31,7 @@ use Rattle.pt_walk.proofs.Descent.{leaf_none, own_piece}
 use Rattle.pt_walk.proofs.Ranges.{load_at}
 use Rattle.pt_sweep.specs.Empties.{lies_below}
 use Rattle.pt_sweep.specs.Sweeps.{MaySweepBelow, SweepsBelow, begins_in, end_of_piece, pages_under}
-use Rattle.pt_sweep.proofs.Apart.{begins_either, begins_is, begins_not, begins_tells, filter_all, filter_same, filtered_one, only_one, piece_long, split}
+use Rattle.pt_sweep.proofs.Apart.{begins_either, begins_is, begins_not, begins_tells, filter_same, filtered_one, only_one, piece_long, split}
 use Rattle.pt_sweep.proofs.SweptTables.{below_none, under}
 
 -- at an entry one piece stands, or none

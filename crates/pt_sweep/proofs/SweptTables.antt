@@ -15,7 +15,7 @@ use Rattle.pt_format.specs.Laws.{IsLayout}
 use Rattle.pt_view.specs.declared.view.View.{View}
 use Rattle.pt_view.specs.declared.view.Piece.{Piece}
 use Rattle.pt_view.specs.declared.holder.Seen.{Seen}
-use Rattle.pt_view.specs.declared.holder.Seen.TheVariants.{Empty, Leaf, Entered}
+use Rattle.pt_view.specs.declared.holder.Seen.TheVariants.{Empty, Entered}
 use Rattle.pt_view.specs.Pieces.{IsOneOf, entry_number, first_of, level_of, table_of}
 use Rattle.pt_view.specs.Loads.{ByLoads, IsOver}
 use Rattle.pt_view.specs.Calls.{IsUnlinked, MayUnlink, all_but_last, begins_under, entry_end, entry_first, is_under, left, lowest}
@@ -220,6 +220,7 @@ entries_on {f} {u = u} first at next level aligned apart edge low high still a b
             ]
           ]
     ]
+
 -- the next entry begins at a multiple of its pages
 pub next_edge : (f : Layout) (at end level stop next : ℕ) → end < 2 ^ 63 → stop ≡ min ((at / pages_of_entry f level + 1) * pages_of_entry f level) (2 ^ 63) → next ≡ min stop end → next < end →
     next % pages_of_entry f level ≡ 0
@@ -264,7 +265,7 @@ module _ {f : Layout} (good : IsLayout f) {tells alone : Type 0} {v : View} {fir
   nothing_here e = loads_sweep (lies_below f first end level) (begins_in f first end) (none_loads l e) (load_none l e).path
       (λ q m. false_from_ne_true (lies_below f first end level q) (λ lies. false≢true (sym ((load_none l e).vacant.no_table q m) ∙ under q lies)))
       (λ x m. begins_not f first end x (λ low high.
-        let long = piece_long f x in free_here good r one l e may.may.owns may.clear (first_of f x) low high x m (omega arith, omega arith)))
+      let long = piece_long f x in free_here good r one l e may.may.owns may.clear (first_of f x) low high x m (omega arith, omega arith)))
 
   -- it names a table
   module _ (e : seen ≡ Entered) where

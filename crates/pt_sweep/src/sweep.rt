@@ -38,7 +38,7 @@ pub(crate) fn sweep_span<F: Format, H: Holder<F>>(holder: &mut H, span: Span, fr
 
 /// Whether a range under an entry of a table of a level is all of the entry, and its table isn't of the spine.
 #[inline(always)]
-fn is_off_spine<F: Format>(level: u32, first: u64, end: u64, levels: u32) -> bool
+pub(crate) fn is_off_spine<F: Format>(level: u32, first: u64, end: u64, levels: u32) -> bool
     requires a_level { level < F.layout.levels }
     requires some { first < end }
     requires in_space { end ≤ input_pages F.layout }

@@ -15,5 +15,5 @@ mod tiles;
 pub use extent::Extent;
 pub use runs::run_length;
 pub use sizes::all_sizes;
-pub use tables::tables_needed;
+pub use tables::{count_tables, tables_needed};
 pub use tiles::Tiles;

@@ -129,10 +129,29 @@ fn needed_at<F: Format>(span: Span, out: u64, levels: u32, sizes: u64, level: u3
     tables_over(span.first, end, log2, larger) + apart::<F>(span.first, levels, level)
 }
 
-/// The number of table positions, other than the starting top, in or under which the entries of the
-/// tiling of a span onto the output pages from `out` lie, with the positions of page 0 up to the least
-/// top that reaches the span's end; `cap` where there are more. `levels` is the number of levels that
-/// the space starts with.
+/// The number of table positions in or under which the entries of the tiling of a span onto the output pages
+/// from `out` lie, with the positions of page 0 from the starting top up to the least top that reaches the
+/// span's end. `levels` is the number of levels that the space started with.
+pub fn count_tables<F: Format>(span: Span, out: u64, levels: u32) -> u64
+    requires some { span.count ≢ 0 }
+    requires in_input { span.first + span.count ≤ input_pages F.layout }
+    requires in_output { out + span.count ≤ output_pages F.layout }
+    requires at_least { F.layout.start ≤ levels }
+    requires at_most { levels ≤ F.layout.levels }
+    ensures { (prot : Prot)
+        → result ≡ length
+        (all_needed F.layout levels
+        (tiling F.layout prot span.first out span.count)) }
+{
+    let sizes = all_sizes::<F>();
+    let mut needed = 0;
+    for level in 0..F::LEVELS {
+        needed += needed_at::<F>(span, out, levels, sizes, level);
+    }
+    needed
+}
+
+/// How many tables a span needs beside the starting top: `cap` where there are more.
 pub fn tables_needed<F: Format>(span: Span, out: u64, levels: u32, cap: u64) -> u64
     requires some { span.count ≢ 0 }
     requires in_input { span.first + span.count ≤ input_pages F.layout }
@@ -145,11 +164,6 @@ pub fn tables_needed<F: Format>(span: Span, out: u64, levels: u32, cap: u64) -> 
         (all_needed F.layout levels
         (tiling F.layout prot span.first out span.count)) - 1) }
 {
-    let sizes = all_sizes::<F>();
-    let mut needed = 0;
-    for level in 0..F::LEVELS {
-        needed += needed_at::<F>(span, out, levels, sizes, level);
-    }
     // the starting top is one of them
-    cap.min(needed.saturating_sub(1))
+    cap.min(count_tables::<F>(span, out, levels).saturating_sub(1))
 }

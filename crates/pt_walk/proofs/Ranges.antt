@@ -1,8 +1,9 @@
 -- Ranges of pages under the path's last table: the pages of one entry, and the pieces that have one of them.
 use Rattle.std.proofs.Common.{◌≡◌, ◌⊎◌, ⊎_elim, ℕ, ◌+◌, ◌-◌, ◌*◌, ◌/◌, ◌%◌, ◌^◌, ◌<◌, ◌≤◌, List, [], ◌∷◌, ◌++◌, inl, inr, refl, ap, sym, ◌∙◌, subst, arith, append_assoc}
-use Rattle.std.specs.Prelude.{IsTrue, Option, Some, None, is_some, true, false}
+use Rattle.std.specs.Prelude.{IsTrue, true, ◌&&◌, nat_le, nat_lt}
 use Rattle.std.proofs.lemmas.List.{append-nil}
-use Rattle.std.proofs.lemmas.Bool.{cases_lt}
+use Rattle.std.proofs.lemmas.Bool.{and_from, cases_lt, false≢true, le-leb, lt-ltb}
+use Rattle.std.proofs.lemmas.Nat.{shr_split}
 use mathlib.Core.Logic.{dite}
 use native.Mathlib.Decide.{ℕ_discrete}
 use Rattle.pt_model.specs.declared.position.Position.{Position}
@@ -19,11 +20,13 @@ use Rattle.pt_view.specs.declared.holder.Seen.TheVariants.{Empty, Leaf, Entered}
 use Rattle.pt_view.specs.Pieces.{IsOneOf, entry_number, level_of}
 use Rattle.pt_view.specs.Views.{SameBook, SameRange}
 use Rattle.pt_view.specs.Loads.{IsInSpan, IsOver}
-use Rattle.pt_view.specs.Calls.{MeetsEntry, Went, lowest, pieces_at}
-use Rattle.pt_view.proofs.Entries.{may_enter, over_page}
+use Rattle.pt_view.specs.Calls.{MeetsEntry, Went, entry_end, entry_first, is_under, lowest, pieces_at}
+use Rattle.pt_view.proofs.Entries.{entry_first_is, may_enter, over_page}
 use Rattle.pt_view.proofs.Loads.{IsLoad, load_leaf, load_none, table_high, table_over, table_path}
-use Rattle.pt_walk.specs.Walks.{FindsLowest, IsClear, IsFree, IsGoing, IsLowest, IsOverRange, OwnsAll, OwnsOver, StopsAt, WentDown, mapped, nothing}
-use Rattle.pt_walk.proofs.Descent.{empty_none, entered_none, leaf_found, match_on}
+use Rattle.pt_walk.specs.Walks.{FindsUnder, HasNoTable, IsClear, IsFree, IsGoing, IsLowest, IsOverRange, OwnsAll, OwnsOver, StopsAt, WentDown, mapped, nothing}
+use Rattle.pt_walk.specs.declared.range.Under.{Under}
+use Rattle.pt_walk.specs.declared.range.Under.TheVariants.{Nothing, Tables, Mapped}
+use Rattle.pt_walk.proofs.Descent.{empty_none, entered_none, leaf_found}
 
 -- Ranges.
 
@@ -104,6 +107,24 @@ module _ {f : Layout} (good : IsLayout f) {tells alone : Type 0} {v : View} {fir
   pub free_here : seen ≡ Empty → OwnsAll f v → IsClear f v first end level → IsFree f v first end
   free_here e owns clear = λ page low high x member has. empty_none good owns (load_at page low high) e x member has (clear page low high x member has)
 
+  -- no table begins under an entry that names none
+  pub no_table_here : (¬ (seen ≡ Entered)) → HasNoTable v first end level
+  no_table_here not = λ q m low from to.
+      let place : Position = position_over f first level in
+      let number : ℕ = entry_number f level first in
+      let is = entry_first_is f first level in
+      let split = shr_split first (f.index * level) in
+      let under : is_under f place number q ≡ true =
+      and_from (nat_lt q.level level && nat_le (entry_first f place number) q.base) _
+      (and_from (nat_lt q.level level) _ (lt-ltb q.level level low) (le-leb (entry_first f place number) q.base (omega arith)))
+      (lt-ltb q.base (entry_end f place number) (omega arith)) in
+      by_kind seen refl q m under
+    where
+      by_kind : (s : Seen) → seen ≡ s → (q : Position) → IsAmong v.tables q → is_under f (position_over f first level) (entry_number f level first) q ≡ true → ⊥
+      by_kind Empty e q m under = false≢true (sym ((load_none l e).vacant.no_table q m) ∙ under)
+      by_kind (Leaf word) e q m under = false≢true (sym ((load_leaf l e).none_under.no_table q m) ∙ under)
+      by_kind Entered e q m under = not e
+
   pub lowest_here : {word : ℕ} → seen ≡ Leaf word → OwnsAll f v → IsLowest f v first end first
   lowest_here e owns =
       let h = leaf_found good owns l e in
@@ -137,8 +158,26 @@ clear_on f first end level b clear = λ page low high x member has. clear page l
 pub clear_from : (f : Layout) (v : View) (first end at to level : ℕ) → IsClear f v first end level → first ≤ at → to ≤ end → IsClear f v at to level
 clear_from f v first end at to level clear low high = λ page a b. clear page (omega arith) (omega arith)
 
-pub answer_on : (f : Layout) {v w : View} (first end : ℕ) (o : Option ℕ) → SameBook v w → FindsLowest f w first end o → FindsLowest f v first end o
-answer_on f {v} {w} first end o b = match_on o (IsFree f w first end) (IsFree f v first end) (IsLowest f w first end) (IsLowest f v first end) (free_on f first end b) (λ page. lowest_on b)
+-- what was found in the table under an entry is there for the entry, but that the table itself stands there
+pub under_mapped : (f : Layout) {v w : View} (first end level : ℕ) {page : ℕ} (u : Under) → u ≡ Mapped page → SameBook v w → FindsUnder f w first end level u → IsLowest f v first end page
+under_mapped f {w = w} first end level u e b h = lowest_on b (subst (FindsUnder f w first end level) e h)
+
+pub under_free : (f : Layout) {v w : View} (first end level : ℕ) (u : Under) → ((page : ℕ) → ¬ (u ≡ Mapped page)) → SameBook v w → FindsUnder f w first end level u → IsFree f v first end
+under_free f first end level Nothing none b h = free_on f first end b h.0
+under_free f first end level Tables none b h = free_on f first end b h
+under_free f first end level (Mapped page) none b h = absurd (none page refl)
+
+pub under_nothing : (f : Layout) (v : View) (first end level : ℕ) (u : Under) → ((page : ℕ) → ¬ (u ≡ Mapped page)) → (¬ (u ≡ Tables)) → FindsUnder f v first end level u → HasNoTable v first end level
+under_nothing f v first end level Nothing none other h = h.1
+under_nothing f v first end level Tables none other h = absurd (other refl)
+under_nothing f v first end level (Mapped page) none other h = absurd (none page refl)
+
+-- no table begins in a range, for views of one book, and one range after the other
+pub no_table_on : {v w : View} (first end level : ℕ) → SameBook v w → HasNoTable w first end level → HasNoTable v first end level
+no_table_on first end level b none = λ q m low from to. none q (subst (λ (ps : List Position). IsAmong ps q) (sym b.tables) m) low from to
+
+pub no_table_more : (v : View) (first at to level : ℕ) → HasNoTable v first at level → HasNoTable v at to level → HasNoTable v first to level
+no_table_more v first at to level a b = λ q m low from to. elim (cases_lt q.base at) [ inl before ↦ a q m low from before | inr after ↦ b q m low after to ]
 
 -- the pages from one to another, and from there on
 pub free_more : (f : Layout) (v : View) (first at to : ℕ) → IsFree f v first at → IsFree f v at to → IsFree f v first to
@@ -158,16 +197,6 @@ lowest_more {f} {v} {at} {page = page} first end low high before h = record {
 -- no piece of a higher level is found at the root's table
 pub clear_root : (f : Layout) (v : View) (first end level : ℕ) → OwnsAll f v → v.top ≤ level → IsClear f v first end level
 clear_root f v first end level owns top = λ page low high x member has. let o = (owns x member).low in omega arith
-
--- A range is gone through: the pages before `at` are free, and those from there to before `to` were looked at.
-module _ (f : Layout) {v w : View} (first end at to : ℕ) (book : SameBook v w) (low : first ≤ at) (high : to ≤ end) (before : IsFree f v first at) where
-  pub found_more : (o : Option ℕ) → is_some o ≡ true → FindsLowest f w at to o → FindsLowest f v first end o
-  found_more None some h = absurd (let z : ⊥ = cc in z)
-  found_more (Some page) some h = lowest_more first end low high before (lowest_on book h)
-
-  pub none_more : (o : Option ℕ) → is_some o ≡ false → FindsLowest f w at to o → IsFree f v first to
-  none_more None none h = free_more f v first at to before (free_on f at to book h)
-  none_more (Some page) none h = absurd (let z : ⊥ = cc in z)
 
 -- Ways down.
 

@@ -9,8 +9,11 @@ use Rattle.pt_model.specs.Book.{translation}
 use Rattle.pt_format.specs.Words.{IsUnder, MayBeLeaf}
 use Rattle.pt_view.specs.declared.view.View.{View}
 use Rattle.pt_walk.specs.declared.path.Leaf.{Leaf}
+use Rattle.pt_walk.specs.declared.range.Under.{Under}
+use Rattle.pt_walk.specs.declared.range.Under.TheVariants.{Nothing, Tables, Mapped}
 use Rattle.pt_view.specs.declared.view.Node.{Node}
 use Rattle.pt_view.specs.declared.view.Piece.{Piece}
+use Rattle.pt_model.specs.declared.position.Position.{Position}
 use Rattle.pt_model.specs.Sets.{IsAmong}
 use Rattle.pt_view.specs.Pieces.{IsOneOf, IsUnderPiece, entry_number, level_of, table_of, word_of, words_of}
 use Rattle.pt_view.specs.Views.{IsAtRest, book_of}
@@ -137,9 +140,16 @@ pub record IsLowest (f : Layout) (v : View) (first end page : ℕ) : Type 0 wher
   pub has_page : IsUnderPiece f piece page
   pub free : IsFree f v first page
 
--- what the look at a range found: nothing, or the lowest mapped page
-abbrev pub FindsLowest : Layout → View → (first end : ℕ) → Option ℕ → Type 0
-FindsLowest f v first end found = MatchOption found (IsFree f v first end) (λ page. IsLowest f v first end page)
+-- no table of the book, of a level below this one, begins in a range
+abbrev pub HasNoTable : View → (first end level : ℕ) → Type 0
+HasNoTable v first end level = (q : Position) → IsAmong v.tables q → q.level < level → first ≤ q.base → q.base < end → ⊥
+
+-- what the look under the entries of a table over a range found: neither a mapped page nor a table, tables alone, or the
+-- lowest mapped page
+abbrev pub FindsUnder : Layout → View → (first end level : ℕ) → Under → Type 0
+FindsUnder f v first end level Nothing = IsFree f v first end × HasNoTable v first end level
+FindsUnder f v first end level Tables = IsFree f v first end
+FindsUnder f v first end level (Mapped page) = IsLowest f v first end page
 
 -- the nodes are the tables over a page, each a level lower than the one before, the first one below `level`
 abbrev pub IsWayDown : Layout → (page level : ℕ) → List Node → Type 0

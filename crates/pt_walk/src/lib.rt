@@ -18,6 +18,6 @@ mod walker;
 mod way;
 
 pub use numbers::{entry_bits, entry_number, spine_end};
-pub use range::{climb, descend, entry_end, first_at, first_below};
+pub use range::{Under, climb, descend, entry_end, first_at, first_below};
 pub use translate::{OutsideLease, lookup};
 pub use walker::{RangeWalk, first_mapped, next_block};

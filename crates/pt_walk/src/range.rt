@@ -3,12 +3,37 @@
 ghost use Rattle.pt_view.specs.Views.{Stays};
 ghost use Rattle.std.specs.Prelude.{◌≡◌, ◌+◌, ◌*◌, ◌/◌, ◌^◌, ◌≤◌, ◌<◌, ◌↔◌, IsTrue, min, length};
 ghost use Rattle.pt_model.specs.Layout.{input_pages, pages_of_entry};
-ghost use Rattle.pt_walk.specs.Walks.{Climbs, FindsLowest, IsClear, IsOverRange, OwnsAll, OwnsOver, StaysClear, StopsAt, WentDown};
+ghost use Rattle.pt_walk.specs.declared.range.Under.TheVariants.{Tables};
+ghost use Rattle.pt_walk.specs.Walks.{Climbs, FindsUnder, IsClear, IsOverRange, OwnsAll, OwnsOver, StaysClear, StopsAt, WentDown};
 ghost use Rattle.pt_view.specs.Loads.{ByLoads};
 
 use crate::numbers::{entry_bits, entry_number};
 use pt_format::Format;
 use pt_view::{Holder, Seen};
+
+/// What stands under the entries of a table over the pages of a range.
+#[derive(Clone, Copy, Debug, PartialEq, Eq)]
+pub enum Under {
+    /// No table and no mapped page.
+    Nothing,
+    /// Tables, in which no page of the range is mapped.
+    Tables,
+    /// Mapped pages of the range, of which this is the lowest.
+    Mapped { page: u64 },
+}
+
+impl Under {
+    /// Whether tables stand there, and no page of the range is mapped.
+    #[inline(always)]
+    pub fn has_tables(self) -> bool
+        ensures { IsTrue result ↔ (self ≡ Tables) }
+    {
+        match self {
+            Under::Tables => true,
+            _ => false,
+        }
+    }
+}
 
 /// The page after the last one under the entry over a page, in a table of this level; 2^63 where that is
 /// more.
@@ -83,36 +108,37 @@ pub fn climb<F: Format, H: Holder<F>>(holder: &mut H, tables: u32)
     }
 }
 
-/// The lowest mapped page of a range under the path's last table, of this level, where no piece of a higher
-/// level has one of its pages.
+/// What stands under the path's last table, of this level, over a range, where no piece of a higher level has one of
+/// its pages.
 #[cycle(first_below)]
 pub fn first_below<F: Format, H: Holder<F>>(
     holder: &mut H,
     level: u32,
     first: u64,
     end: u64,
-) -> Option<u64>
+) -> Under
     requires range { IsOverRange F.layout (H.view holder.old) first end level }
     requires owns { OwnsAll F.layout (H.view holder.old) }
     ensures stays { Stays H.space H.aside H.alone holder.old holder.new }
     ensures walked { ByLoads H.tells (H.view holder.old) (H.view holder.new) }
     ensures path { (H.view holder.new).path ≡ (H.view holder.old).path }
-    ensures lowest { IsClear F.layout (H.view holder.old) first end level → FindsLowest F.layout (H.view holder.old) first end result }
+    ensures under { IsClear F.layout (H.view holder.old) first end level → FindsUnder F.layout (H.view holder.old) first end level result }
 {
     let mut at = first;
+    let mut tables = false;
     while at < end {
         let next = u64::min(entry_end::<F>(level, at), end);
-        let mapped = first_at::<F, H>(holder, level, at, next);
-        if mapped.is_some() {
-            return mapped;
+        match first_at::<F, H>(holder, level, at, next) {
+            Under::Nothing => {}
+            Under::Tables => tables = true,
+            Under::Mapped { page } => return Under::Mapped { page },
         }
         at = next;
     }
-    None
+    if tables { Under::Tables } else { Under::Nothing }
 }
 
-/// The lowest mapped page of a range under one entry of the path's last table, of this level, where no piece
-/// of a higher level has one of its pages.
+/// The same, of a range under one entry of that table.
 #[cycle(first_below)]
 #[inline(always)]
 pub fn first_at<F: Format, H: Holder<F>>(
@@ -120,22 +146,25 @@ pub fn first_at<F: Format, H: Holder<F>>(
     level: u32,
     first: u64,
     end: u64,
-) -> Option<u64>
+) -> Under
     requires range { IsOverRange F.layout (H.view holder.old) first end level }
     requires one { end ≤ (first / pages_of_entry F.layout level + 1) * pages_of_entry F.layout level }
     requires owns { OwnsAll F.layout (H.view holder.old) }
     ensures stays { Stays H.space H.aside H.alone holder.old holder.new }
     ensures walked { ByLoads H.tells (H.view holder.old) (H.view holder.new) }
     ensures path { (H.view holder.new).path ≡ (H.view holder.old).path }
-    ensures lowest { IsClear F.layout (H.view holder.old) first end level → FindsLowest F.layout (H.view holder.old) first end result }
+    ensures under { IsClear F.layout (H.view holder.old) first end level → FindsUnder F.layout (H.view holder.old) first end level result }
 {
     match holder.enter(entry_number::<F>(level, first)) {
-        Seen::Empty => None,
-        Seen::Leaf(_) => Some(first),
+        Seen::Empty => Under::Nothing,
+        Seen::Leaf(_) => Under::Mapped { page: first },
         Seen::Entered => {
-            let page = first_below::<F, H>(holder, level - 1, first, end);
+            let under = first_below::<F, H>(holder, level - 1, first, end);
             holder.leave();
-            page
+            match under {
+                Under::Mapped { page } => Under::Mapped { page },
+                _ => Under::Tables,
+            }
         }
     }
 }

@@ -2,8 +2,8 @@ use Rattle.std.proofs.Common.{◌≡◌, ℕ, ◌+◌, ◌*◌, ◌/◌, ◌≤�
 use Rattle.pt_model.specs.Layout.{pages_of_entry}
 use Rattle.pt_tile.proofs.FirstSizes.{size_small}
 use Rattle.pt_view.specs.Views.{linked_count}
-use Rattle.pt_map.proofs.MapFromRoot.{Begun, Reached, clear_here, low_size, may_map, owns_root, range_root, to_table}
-use Rattle.pt_map.proofs.MapAnswers.{Done, accounts, answers, full_after, left_path, rests_after}
+use Rattle.pt_map.proofs.MapFromRoot.{Begun, Reached, clear_here, fixed_reach, low_size, may_map, owns_root, range_root, to_table}
+use Rattle.pt_map.proofs.MapAnswers.{Done, accounts, answers, left_path, rests_after}
 use Rattle.pt_map.proofs.OneBlock.{block_end}
 use Rattle.pt_map.proofs.request.map_extent.Given.{Over}
 use Rattle.pt_map.proofs.request.map_extent.Goals.{After-INDEX, After-climb, After-descend-level, After-map_at-mapped}
@@ -13,7 +13,7 @@ use Rattle.pt_map.proofs.request.map_extent.Goals as goal
 -- What is known at the root, at the table over all of the extent, and at the end.
 
 begun : (g : Over) (c : After-INDEX g) → Begun g.F.Format.layout g.H.Holder.tells (g.H.Holder.alone c.args.holder.now) (g.H.Holder.view c.args.holder.now) (g.H.Holder.view c.root-root.new.self) c.args.extent c.root-root.result
-begun g c = record { may = c.requires.may; fixed = c.requires.fixed; rooted = c.root-root.ensures.rooted }
+begun g c = record { may = c.requires.may; reach = fixed_reach g.met.F.Format.lawful_layout c.requires.may c.requires.fixed c.root-root.ensures.rooted; rooted = c.root-root.ensures.rooted }
 
 -- the level of an extent's first block, as the code makes it
 step_over : (log2 index size width : ℕ) → log2 ≡ size → index ≡ width → log2 / index ≡ size / width
@@ -58,9 +58,6 @@ climb-requires g c =
 pub returns-clause-rests : goal.returns-clause-rests
 returns-clause-rests g c = let at = goal.at.returns-clause-rests g c in rests_after g.met.F.Format.lawful_layout (done g at.After-climb (reached g at.After-descend-level (begun g at.After-INDEX)))
 
-pub returns-clause-full : goal.returns-clause-full
-returns-clause-full g c = let at = goal.at.returns-clause-full g c in full_after g.met.F.Format.lawful_layout (done g at.After-climb (reached g at.After-descend-level (begun g at.After-INDEX)))
-
 pub returns-clause-answered : goal.returns-clause-answered
 returns-clause-answered g c = let at = goal.at.returns-clause-answered g c in answers g.met.F.Format.lawful_layout (done g at.After-climb (reached g at.After-descend-level (begun g at.After-INDEX)))
 
@@ -72,7 +69,7 @@ returns-clause-accounted g c = λ a.
     accounts g.met.F.Format.lawful_layout (done g at.After-climb r) (g.H.Holder.aside c.args.holder.now)
     (linked_walked (g.H.Holder.view c.args.holder.now) (g.H.Holder.view c.descend-level.new.holder) (g.H.Holder.aside c.args.holder.now) (g.H.Holder.aside c.descend-level.new.holder)
     (to_table g.met.F.Format.lawful_layout r) (c.descend-level.ensures.stays.same_aside ∙ c.root-root.ensures.stays.same_aside))
-    (c.descend-level.ensures.stays.still_alone a_root) (c.descend-level.ensures.owned a_root)
+    a (c.descend-level.ensures.stays.still_alone a_root) (c.descend-level.ensures.owned a_root)
 
 pub map_at-mapped-requires-clause-small : goal.map_at-mapped-requires-clause-small
 map_at-mapped-requires-clause-small g c =

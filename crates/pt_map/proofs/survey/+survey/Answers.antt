@@ -1,4 +1,6 @@
-use Rattle.std.proofs.Common.{rules, ◌≡◌, ℕ, ◌*◌, ◌<◌, ◌≤◌, sym, ap, subst, ◌∙◌, refl, arith}
+use Rattle.std.proofs.Common.{rules, ◌≡◌, Bool, true, false, ℕ, ◌*◌, ◌<◌, ◌≤◌, sym, ap, subst, ◌∙◌, refl, arith}
+use Rattle.std.specs.Prelude.{◌||◌}
+use Rattle.std.proofs.lemmas.Bool.{false≢true}
 use Rattle.pt_view.specs.declared.view.View.{View}
 use Rattle.pt_walk.specs.Walks.{IsFree}
 use Rattle.pt_tile.specs.declared.extent.Extent.{Extent}
@@ -7,7 +9,7 @@ use Rattle.pt_tile.proofs.FirstSizes.{outputs_few, size_small}
 use Rattle.pt_tile.proofs.RunTilings.{run_fits}
 use Rattle.pt_map.proofs.AbsentShown.{level_high}
 use Rattle.pt_map.proofs.AbsentCounted.{gone_all, gone_none, inner_entry, inner_to}
-use Rattle.pt_map.proofs.SurveyFinds.{free_on_to, gone_on, may_survey_inner, may_survey_inside, may_survey_rest, may_survey_run, none_in_run, none_lowest, run_first, surveyed_empty, surveyed_entered, surveyed_inner, surveyed_leaf, surveyed_mapped, surveyed_run}
+use Rattle.pt_map.proofs.SurveyFinds.{free_on_to, gone_on, only_none, only_on, may_survey_inner, may_survey_inside, may_survey_rest, may_survey_run, none_in_run, none_lowest, run_first, surveyed_empty, surveyed_entered, surveyed_inner, surveyed_leaf, surveyed_mapped, surveyed_run}
 use Rattle.pt_view.proofs.Stays.{stays_here, stays_on}
 use Rattle.pt_walk.proofs.Ranges.{range_enters, range_load}
 use Rattle.pt_view.proofs.Loads.{some_path}
@@ -101,6 +103,11 @@ survey_under-returns-in-Leaf-clause-surveyed g t c =
 
 -- The loop over the parts of an extent.
 
+-- neither of two tests passes
+or_false_parts : (a b : Bool) → (a || b) ≡ false → (a ≡ false) × (b ≡ false)
+or_false_parts true b e = absurd (false≢true (sym e))
+or_false_parts false b e = (refl, e)
+
 pub survey-look-requires-clause-none : goal.survey-look-requires-clause-none
 survey-look-requires-clause-none g t c = none_lowest g.F.Format.layout c.args.extent c.args.level c.if-level-eq0.true
 
@@ -108,6 +115,7 @@ pub survey-loop-rest-init : goal.survey-loop-rest-init
 survey-loop-rest-init g t c = record {
   stays = stays_here;
   gone = gone_none g.F.Format.layout g.H.Holder.tells (g.H.Holder.alone c.args.holder.now) (g.H.Holder.view c.args.holder.now) c.args.extent c.args.level c.args.cap c.requires.at.extent.some;
+  only = λ none p m h. h;
   free = λ page low high. absurd (omega arith);
 }
 
@@ -145,9 +153,13 @@ survey-loop-rest-preserved g t c =
     record {
       stays = stays_on i.stays n.stays;
       gone = gone_on good c.requires i.gone c.loop-rest-test.true i.stays.still_alone n.to i.free n.surveyed
-          c.in-Absent.count c.in-Absent.is c.from-rest.result c.from-rest.ensures c.min-absent.result c.min-absent.ensures;
+          c.in-Absent.count c.in-Absent.tables c.in-Absent.is c.from-rest.result c.from-rest.ensures c.min-absent.result c.min-absent.ensures;
+      only = λ none.
+          let each = or_false_parts c.loop-rest.over_tables c.in-Absent.tables none in
+          only_on good c.requires i.gone c.loop-rest-test.true i.stays.still_alone n.to i.free n.surveyed
+          c.in-Absent.count c.in-Absent.tables c.in-Absent.is c.from-rest.result c.from-rest.ensures (i.only each.0) each.1;
       free = subst (λ (page : ℕ). IsFree g.F.Format.layout v c.args.extent.first page) (sym first)
-          (free_on_to good c.requires i.gone c.loop-rest-test.true i.stays.still_alone n.to i.free n.surveyed c.in-Absent.count c.in-Absent.is);
+          (free_on_to good c.requires i.gone c.loop-rest-test.true i.stays.still_alone n.to i.free n.surveyed c.in-Absent.count c.in-Absent.tables c.in-Absent.is);
     }
 
 pub survey-returns-in-Mapped-clause-surveyed : goal.survey-returns-in-Mapped-clause-surveyed
@@ -167,5 +179,6 @@ survey-returns-clause-surveyed g t c =
       finds = (
         (λ page low high. i.free page low (omega arith)),
         gone_all g.met.F.Format.lawful_layout c.requires.at i.gone (λ more. omega arith),
+        (λ none. only_none g.F.Format.layout (g.H.Holder.view c.args.holder.now) c.args.extent c.loop-rest.rest (λ more. omega arith) (i.only none)),
       );
     }

@@ -1,6 +1,7 @@
-use Rattle.std.proofs.Common.{◌-◌, ◌+◌, ◌*◌}
+use Rattle.std.proofs.Common.{◌≡◌, false, ◌-◌, ◌+◌, ◌*◌}
 use Rattle.pt_walk.specs.Walks.{IsFree}
 use Rattle.pt_map.proofs.AbsentCounted.{HasGone}
+use Rattle.pt_map.proofs.SurveyFinds.{OnlyLeft}
 use Rattle.pt_view.specs.Views.{Stays}
 use Rattle.pt_map.proofs.survey.+survey.Given as goal
 
@@ -18,6 +19,7 @@ invariant-survey-loop-rest g l =
     record {
       stays : Stays g.H.Holder.space g.H.Holder.aside g.H.Holder.alone l.initial.holder l.holder;
       gone : HasGone g.F.Format.layout g.H.Holder.tells (g.H.Holder.alone l.initial.holder) (g.H.Holder.view l.initial.holder) (g.H.Holder.view l.holder) l.initial.rest l.rest l.level l.cap l.absent;
+      only : l.over_tables ≡ false → OnlyLeft g.F.Format.layout (g.H.Holder.view l.initial.holder) l.initial.rest l.rest;
       free : IsFree g.F.Format.layout (g.H.Holder.view l.initial.holder) l.initial.rest.first l.rest.first;
     }
 

@@ -1,5 +1,4 @@
-use Rattle.std.proofs.Common.{◌≡◌, ℕ, ◌+◌, ◌≤◌, List, inl, inr, refl, sym, subst, ap, ◌∙◌, arith}
-use Rattle.std.specs.Prelude.{IsTrue}
+use Rattle.std.proofs.Common.{ℕ, ◌+◌, ◌≤◌, List, inl, inr, refl, sym, subst, ap, ◌∙◌, arith}
 use Rattle.pt_model.specs.declared.position.Position.{Position}
 use Rattle.pt_model.specs.Sets.{IsAmong}
 use Rattle.pt_model.specs.Tables.{starting_top}
@@ -8,7 +7,6 @@ use Rattle.pt_view.specs.declared.view.Piece.{Piece}
 use Rattle.pt_view.specs.Pieces.{IsOneOf}
 use Rattle.pt_view.specs.Calls.{all_but_last}
 use Rattle.pt_view.proofs.Loads.{loads_here, root_loads}
-use Rattle.pt_walk.specs.Walks.{OwnsAll}
 use Rattle.pt_walk.proofs.Ranges.{clear_root}
 use Rattle.pt_sweep.specs.Empties.{lies_below}
 use Rattle.pt_sweep.specs.Sweeps.{MaySweep, begins_in}

@@ -1,6 +1,6 @@
-use Rattle.std.proofs.Common.{◌≡◌, ◌+◌, ◌-◌, ◌*◌, ◌≤◌}
+use Rattle.std.proofs.Common.{◌≡◌, false, ◌+◌, ◌-◌, ◌*◌, ◌≤◌}
 use Rattle.pt_view.specs.declared.view.View.{View}
-use Rattle.pt_walk.specs.Walks.{IsClear, IsFree}
+use Rattle.pt_walk.specs.Walks.{HasNoTable, IsClear, IsFree}
 use Rattle.pt_view.specs.Loads.{ByLoads}
 use Rattle.pt_view.specs.Views.{Stays}
 use Rattle.pt_walk.proofs.range.+first_below.Given as goal
@@ -23,6 +23,7 @@ invariant-first_below-loop-at g l =
       walked : ByLoads g.H.Holder.tells v w;
       path : w.path ≡ v.path;
       free : IsClear f v l.first l.end l.level → IsFree f v l.first l.at;
+      none : IsClear f v l.first l.end l.level → l.tables ≡ false → HasNoTable v l.first l.at l.level;
     }
 
 abbrev pub decreases-first_below-loop-at : goal.decreases-first_below-loop-at

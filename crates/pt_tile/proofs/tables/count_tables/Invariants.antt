@@ -3,7 +3,7 @@ use Rattle.pt_model.specs.declared.block.Prot.{Prot}
 use Rattle.pt_model.specs.Tables.{all_needed}
 use Rattle.pt_model.specs.Tiling.{tiling}
 use Rattle.pt_tile.specs.Counting.{levels_below}
-use Rattle.pt_tile.proofs.tables.tables_needed.Given as goal
+use Rattle.pt_tile.proofs.tables.count_tables.Given as goal
 
 abbrev pub invariant-loop-level : goal.invariant-loop-level
 invariant-loop-level g l = record {
