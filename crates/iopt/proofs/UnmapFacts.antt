@@ -1,17 +1,17 @@
 -- What the taking away of a range answers, by the book machine.
-use Rattle.std.proofs.Common.{◌≡◌, ℕ, ◌+◌, ◌/◌, ◌^◌, List, Bool, true, false, Option, Some, None, refl, ap, sym, ◌∙◌, subst, arith}
-use Rattle.std.specs.Prelude.{All, IsTrue, not, option_map, if◌then◌else◌}
+use Rattle.std.proofs.Common.{◌≡◌, ℕ, ◌+◌, ◌/◌, ◌^◌, Bool, true, false, Option, Some, None, ap, sym, ◌∙◌, subst}
+use Rattle.std.specs.Prelude.{All, not, option_map, if◌then◌else◌}
 use Rattle.pt_model.specs.declared.block.Block.{Block}
 use Rattle.pt_model.specs.declared.reply.UnmapAnswer.{UnmapAnswer}
 use Rattle.pt_model.specs.declared.reply.UnmapAnswer.TheVariants as unmapping
 use Rattle.pt_model.specs.Layout.{Layout, IsLegalBlock}
-use Rattle.pt_model.specs.Pages.{is_whole, page_under, range_at}
+use Rattle.pt_model.specs.Pages.{page_under, range_at}
 use Rattle.pt_model.specs.Book.{Book, is_inside}
 use Rattle.pt_model.specs.Unmap.{UnmapRefusal, Misaligned, OutsideLease, CutsEntry, is_cut, lowest_cut, pages_gone, unmap_refusal, unmapped}
 use Rattle.pt_model.specs.Run.{after_unmap, refused_unmap, unmap_answer}
 use Rattle.pt_book.proofs.ListFacts.{found_is}
 use Rattle.pt_view.specs.declared.view.View.{View}
-use Rattle.pt_view.specs.Views.{IsAtRest, SameRange, book_of}
+use Rattle.pt_view.specs.Views.{IsAtRest, SameRange}
 use Rattle.pt_sweep.specs.Unmaps.{IsUnmapped}
 use Rattle.iopt.specs.Built.{machine}
 use Rattle.iopt.specs.Running.{IsReady, UnmapsAs, blocks_of, book_in, machine_in}
