@@ -1,6 +1,6 @@
 //! The program against the slow book of the definitions.
 
-ghost use Rattle.std.specs.Prelude.{IfOk, IsTrue};
+ghost use Rattle.std.specs.Prelude.{◌<◌, IfOk, IsTrue};
 ghost use Rattle.pt_book.specs.Spaces.{IsStart};
 ghost use Rattle.iopt.specs.Telling.{NamesLegalBlock, has_small_blocks};
 
