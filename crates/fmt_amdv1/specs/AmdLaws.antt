@@ -1,23 +1,21 @@
 -- The laws of AMD tables.
-use Rattle.std.proofs.Common.{◌≡◌, ℕ, ◌+◌, ◌-◌, ◌*◌, ◌/◌, ◌%◌, ◌^◌, ◌<◌, ◌≤◌, refl, ap, sym, ◌∙◌, arith, List, true, false}
-use Rattle.std.specs.Prelude.{IsTrue, nat_le, nat_lt}
+use Rattle.std.proofs.Common.{◌≡◌, ℕ, ◌+◌, ◌*◌, ◌/◌, ◌%◌, ◌^◌, ◌<◌, ◌≤◌, refl, ap, sym, ◌∙◌, arith, List, true, false}
+use Rattle.std.specs.Prelude.{nat_le, nat_lt}
 use Rattle.std.proofs.lemmas.Bool.{le-leb, lt-ltb}
 use Rattle.std.proofs.lemmas.Nat.{mod_below, pow-add, pow_pos}
 use Rattle.pt_model.specs.declared.block.Prot.{Prot}
-use Rattle.pt_model.specs.declared.block.Prot.TheVariants.{Read, ReadWrite}
-use Rattle.pt_model.specs.Layout.{is_common, level_of_size, may_read, may_write, page}
+use Rattle.pt_model.specs.Layout.{level_of_size, page}
 use Rattle.pt_model.specs.Words.{root_frame}
 use Rattle.pt_format.specs.Words.{MayBeLeaf, IsTableAddress, IsTableLevel}
 use Rattle.pt_format.specs.Laws.{HasConstants, IsLayout, WordsDiffer}
 use Rattle.pt_format.specs.Manual.{IsRooted, IsWalk, StepsAgree}
-use Rattle.pt_format.proofs.Permissions.{of_common}
-use Rattle.pt_manual.specs.Granting.{allowed}
 use Rattle.pt_manual.specs.AmdWalk.{manual, mode, next_level}
 use Rattle.pt_manual.proofs.AmdFacts.{rooted, walk_is}
-use Rattle.fmt_nine_bit.specs.OverPages.{found, found_page, reached, step_by}
+use Rattle.fmt_nine_bit.specs.OverPages.{found, reached, step_by}
 use Rattle.fmt_nine_bit.specs.ManualLayout.{IsReadBy}
 use Rattle.fmt_nine_bit.proofs.BlockFacts.{in_block}
-use Rattle.fmt_nine_bit.proofs.NineBitWalks.{granted_is, near, unpicked, walks_from}
+use Rattle.fmt_nine_bit.proofs.NineBitWalks.{near, page_found, page_given, unpicked, walks_from}
+use Rattle.fmt_nine_bit.proofs.PermissionFacts.{one_permission}
 use Rattle.fmt_amdv1.specs.AmdWords.{IsLeafOf, IsPointerOf, bits_of, layout, leaf, pointer, words}
 use Rattle.fmt_amdv1.specs.Sizes.{size_of}
 use Rattle.fmt_amdv1.specs.AmdFacts.{by_code, by_default, form_of, leaf_log2, leaf_parts, leaf_step, pointer_parts, pointer_step}
@@ -57,13 +55,6 @@ pub pointer_of : {level address : ℕ} → IsTableLevel layout level → IsTable
     IsPointerOf level word address
 pointer_of at frame word is = record { above = at.above; below = at.below; a_frame = frame; word_is = is }
 
-one_permission : (p q : Prot) → IsTrue (is_common p) → IsTrue (is_common q) → bits_of p ≡ bits_of q → p ≡ q
-one_permission p q stated stated' =
-    of_common (λ x. bits_of x ≡ bits_of q → x ≡ q)
-    (of_common (λ y. bits_of Read ≡ bits_of y → Read ≡ y) (λ e. refl) (λ e. absurd (omega arith)) q stated')
-    (of_common (λ y. bits_of ReadWrite ≡ bits_of y → ReadWrite ≡ y) (λ e. absurd (omega arith)) (λ e. refl) q stated')
-    p stated
-
 -- the next level of a leaf is that of no pointer
 pub leaf_next : {level log2 out word : ℕ} {prot : Prot} → IsLeafOf level log2 out word prot → (next_level word + 1) % 8 ≤ 1
 leaf_next {level} {log2} {out} x = elim (form_of level log2 out) [
@@ -90,18 +81,14 @@ words_differ = record {
   one_size = λ level j k out out' part part' p q may may' e.
       let x = leaf_of may (leaf level j out p) refl in
       let y = leaf_of may' (leaf level j out p) e in
-      (sym (leaf_log2 x) ∙ leaf_log2 y, one_permission p q x.stated y.stated (sym (leaf_parts x).others_are ∙ (leaf_parts y).others_are));
+      (sym (leaf_log2 x) ∙ leaf_log2 y, one_permission bits_of (λ e. omega arith) p q x.stated y.stated (sym (leaf_parts x).others_are ∙ (leaf_parts y).others_are));
 }
 
 -- the page that the manual's step finds at a leaf
 pub leaf_found : {level log2 out word : ℕ} {prot : Prot} (here : ℕ) → IsLeafOf level log2 out word prot →
     step_by manual level word here ≡ page (out + here % 2 ^ log2) prot
 leaf_found {level} {log2} {out} {word} {prot} here x =
-    let bits : 12 + log2 - 12 ≡ log2 = omega arith in
-    let out_is : out * 2 ^ 12 / 2 ^ 12 + here % 2 ^ (12 + log2 - 12) ≡ out + here % 2 ^ log2 = rw bits (omega arith) in
-    ap (found here) (leaf_step x)
-    ∙ ap (λ n. found_page n (allowed (may_read prot) (may_write prot))) out_is
-    ∙ ap (found_page (out + here % 2 ^ log2)) (granted_is prot)
+    page_found manual level word here out log2 prot (leaf_step x)
 
 pub steps_agree : StepsAgree layout
 steps_agree = record {
@@ -120,14 +107,7 @@ steps_agree = record {
 is_read_by : IsReadBy manual layout
 is_read_by = record {
   empty = λ level. refl;
-  leaf_is = λ level word log2 prot l.
-      record {
-        address = l.out * 2 ^ 12;
-        log2 = 12 + log2;
-        whole = omega arith;
-        wide = omega arith;
-        step_is = leaf_step (leaf_of l.may word l.word_is);
-      };
+  leaf_is = λ level word log2 prot l. page_given manual level word l.out log2 prot (leaf_step (leaf_of l.may word l.word_is));
   pointer_is = λ level word address p. pointer_step (pointer_of p.at_level p.a_frame word p.word_is);
 }
 

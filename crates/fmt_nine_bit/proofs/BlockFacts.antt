@@ -7,7 +7,7 @@ use Rattle.pt_model.specs.Layout.{Layout}
 use Rattle.pt_format.specs.Words.{IsUnder, MayBeLeaf}
 
 -- the place of a page in its block
-place : (m first here : ℕ) → first % m ≡ 0 → first ≤ here → here < first + m → here % m ≡ here - first
+pub place : (m first here : ℕ) → first % m ≡ 0 → first ≤ here → here < first + m → here % m ≡ here - first
 place m first here aligned from to =
     let whole = div-add-mod first m in
     let less : here - first < m = omega arith in

@@ -15,6 +15,7 @@ use Rattle.pt_manual.specs.declared.step.Step.TheVariants.{NotPresent, Page, Nex
 use Rattle.fmt_nine_bit.specs.OverPages.{reached}
 use Rattle.fmt_nine_bit.specs.ManualEntries.{ReadsWritten, entries_by}
 use Rattle.fmt_nine_bit.proofs.EntryFacts.{aligned_at, entry_of}
+use Rattle.fmt_nine_bit.proofs.PermissionFacts.{one_permission}
 use Rattle.fmt_nine_bit.proofs.NineBitWalks as Walks
 
 -- what is written below the address
@@ -41,21 +42,13 @@ module _ {of_leaf : Prot → ℕ} {of_pointer : ℕ} (common : AreCommon of_leaf
   leaf_small : (prot : Prot) → IsTrue (is_common prot) → of_leaf prot < 2 ^ 7
   leaf_small = let a = common.more in let b = common.few in of_common (λ prot. of_leaf prot < 2 ^ 7) (omega arith) (omega arith)
 
-  one_permission : (p q : Prot) → IsTrue (is_common p) → IsTrue (is_common q) → of_leaf p ≡ of_leaf q → p ≡ q
-  one_permission p q stated stated' =
-      let more = common.more in
-      of_common (λ x. of_leaf x ≡ of_leaf q → x ≡ q)
-      (of_common (λ y. of_leaf Read ≡ of_leaf y → Read ≡ y) (λ e. refl) (λ e. absurd (omega arith)) q stated')
-      (of_common (λ y. of_leaf ReadWrite ≡ of_leaf y → ReadWrite ≡ y) (λ e. absurd (omega arith)) (λ e. refl) q stated')
-      p stated
-
   pub are_bits : (m : Manual) → AreBits (entries_by m is_common of_leaf of_pointer)
   are_bits m = record {
     states_read = refl;
     states_both = refl;
     leaf_low = leaf_small;
     leaf_some = let a = common.read_some in let b = common.more in of_common (λ prot. of_leaf prot ≡ 0 → ⊥) (λ e. omega arith) (λ e. omega arith);
-    one_permission = one_permission;
+    one_permission = let more = common.more in one_permission of_leaf (λ e. omega arith);
     pointer_low = common.pointer_few;
   }
 

@@ -1,4 +1,5 @@
 pub mod EntryFacts
+pub mod PermissionFacts
 pub mod BlockFacts
 pub mod NineBitWalks
 pub mod CommonEntries

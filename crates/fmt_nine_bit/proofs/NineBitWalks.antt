@@ -17,15 +17,32 @@ use Rattle.pt_manual.specs.declared.step.Step.TheVariants.{NotPresent, Page, Nex
 use Rattle.pt_manual.specs.Granting.{allowed, granted}
 use Rattle.pt_manual.specs.NineBitWalk.{Manual, names_frame, walk_by, walk_from, followed, page_as}
 use Rattle.fmt_nine_bit.specs.OverPages.{reached, found, found_page, step_by}
-use Rattle.fmt_nine_bit.specs.ManualLayout.{IsReadBy, Trees, Words, layout_by, layout_of}
+use Rattle.fmt_nine_bit.specs.ManualLayout.{GivesPageOf, IsReadBy, Trees, Words, layout_by, layout_of}
 use Rattle.fmt_nine_bit.specs.ManualEntries.{ReadsWritten, entries_by}
 
 -- what a leaf says is what is granted
-pub granted_is : (prot : Prot) → allowed (may_read prot) (may_write prot) ≡ granted prot
+granted_is : (prot : Prot) → allowed (may_read prot) (may_write prot) ≡ granted prot
 granted_is Read = refl
 granted_is ReadWrite = refl
 
-picked : (b : Bool) (x here : ℕ) → (if b then Some x else None) ≡ Some here → (b ≡ true) × (x ≡ here)
+-- the page that a step finds where the manual gives a leaf's
+pub page_found : (m : Manual) (level word here out log2 : ℕ) (prot : Prot) →
+    m.step (m.number level) word ≡ Page (out * 2 ^ 12) (12 + log2) (may_read prot) (may_write prot) →
+    step_by m level word here ≡ page (out + here % 2 ^ log2) prot
+page_found m level word here out log2 prot step_is =
+    let bits : 12 + log2 - 12 ≡ log2 = omega arith in
+    let out_is : out * 2 ^ 12 / 2 ^ 12 + here % 2 ^ (12 + log2 - 12) ≡ out + here % 2 ^ log2 = rw bits (omega arith) in
+    ap (found here) step_is
+    ∙ ap (λ n. found_page n (allowed (may_read prot) (may_write prot))) out_is
+    ∙ ap (found_page (out + here % 2 ^ log2)) (granted_is prot)
+
+-- and that it gives one of whole pages
+pub page_given : (m : Manual) (level word out log2 : ℕ) (prot : Prot) →
+    m.step (m.number level) word ≡ Page (out * 2 ^ 12) (12 + log2) (may_read prot) (may_write prot) → GivesPageOf m level word prot
+page_given m level word out log2 prot step_is =
+    record { address = out * 2 ^ 12; log2 = 12 + log2; whole = omega arith; wide = omega arith; step_is = step_is }
+
+pub picked : (b : Bool) (x here : ℕ) → (if b then Some x else None) ≡ Some here → (b ≡ true) × (x ≡ here)
 picked true x here e = (refl, (let w : x ≡ here = cc in w))
 picked false x here e = absurd (let w : ⊥ = cc in w)
 
@@ -60,7 +77,7 @@ bytes log2 base address wide whole =
     ap (λ k. base + address % 2 ^ k) is ∙ omega (arith, low)
 
 -- what holds on the way holds on it by what follows from it
-onward_all : (f : Layout) {P Q : ℕ → Type 0} → ((frame : ℕ) → P frame → Q frame) → (found : Found) → Onward f P found → Onward f Q found
+pub onward_all : (f : Layout) {P Q : ℕ → Type 0} → ((frame : ℕ) → P frame → Q frame) → (found : Found) → Onward f P found → Onward f Q found
 onward_all f all nothing on = tt
 onward_all f all (page out prot) on = tt
 onward_all f all (table t) on = all ((t - 2 ^ 32) / 2 ^ f.granule) on
@@ -169,11 +186,7 @@ module _ (m : Manual) (states : Prot → Bool) (of_leaf : Prot → ℕ) (of_poin
   are_read = record {
     empty = λ level here. ap (found here) (reads.empty level);
     leaf_is = λ level word out here prot leaf.
-        let bits : 12 + 9 * level - 12 ≡ 9 * level = omega arith in
-        let out_is : out * 2 ^ 12 / 2 ^ 12 + here % 2 ^ (12 + 9 * level - 12) ≡ out + here % 2 ^ (9 * level) = rw bits (omega arith) in
-        ap (found here) (reads.leaf_is level word out prot leaf)
-        ∙ ap (λ n. found_page n (allowed (may_read prot) (may_write prot))) out_is
-        ∙ ap (found_page (out + here % 2 ^ (9 * level))) (granted_is prot);
+        page_found m level word here out (9 * level) prot (reads.leaf_is level word out prot leaf);
     pointer_is = λ level word address here pointer. ap (found here) (reads.pointer_is level word address pointer);
   }
 
@@ -192,12 +205,7 @@ module _ (m : Manual) (states : Prot → Bool) (of_leaf : Prot → ℕ) (of_poin
       (record {
         empty = reads.empty;
         leaf_is = λ level word log2 prot l.
-            record {
-              address = l.out * 2 ^ 12;
-              log2 = 12 + 9 * level;
-              whole = omega arith;
-              wide = omega arith;
-              step_is = reads.leaf_is level word l.out prot (leaf_of_may {t = tables (entries_by m states of_leaf of_pointer) levels input (λ words address. reached (walk_by m words levels input bad_root address))} word l.may l.word_is);
-            };
+            page_given m level word l.out (9 * level) prot
+            (reads.leaf_is level word l.out prot (leaf_of_may {t = tables (entries_by m states of_leaf of_pointer) levels input (λ words address. reached (walk_by m words levels input bad_root address))} word l.may l.word_is));
         pointer_is = λ level word address p. reads.pointer_is level word address (record { above = p.at_level.above; a_frame = p.a_frame; word_is = p.word_is });
       })

@@ -1,22 +1,21 @@
 -- The laws of RISC-V tables, for each number of levels.
-use Rattle.std.proofs.Common.{◌≡◌, ℕ, ◌+◌, ◌-◌, ◌*◌, ◌/◌, ◌%◌, ◌^◌, ◌<◌, ◌≤◌, refl, ap, ap₂, subst, sym, ◌∙◌, arith, false}
+use Rattle.std.proofs.Common.{◌≡◌, ℕ, ◌+◌, ◌-◌, ◌*◌, ◌%◌, ◌^◌, ◌<◌, ◌≤◌, refl, ap, ap₂, subst, sym, ◌∙◌, arith, false}
 use Rattle.std.specs.Prelude.{IsTrue}
-use Rattle.std.proofs.lemmas.Nat.{mod_below, mod-mul-add, pow_pos}
-use Rattle.std.proofs.Math.Nat.{div-add-mod}
+use Rattle.std.proofs.lemmas.Nat.{mod_below, pow_pos}
 use Rattle.pt_model.specs.declared.block.Prot.{Prot}
-use Rattle.pt_model.specs.declared.block.Prot.TheVariants.{Read, ReadWrite}
 use Rattle.pt_model.specs.Layout.{is_common, is_size, level_of_size, may_read, may_write, page}
-use Rattle.pt_format.specs.Words.{MayBeLeaf, IsUnder}
+use Rattle.pt_format.specs.Words.{MayBeLeaf}
 use Rattle.pt_format.specs.Laws.{HasConstants, IsLayout, WordsDiffer}
 use Rattle.pt_format.specs.FourKibLaws.{fixed_layout}
 use Rattle.pt_format.specs.Manual.{IsWalk, StepsAgree}
 use Rattle.pt_format.proofs.Permissions.{of_common}
 use Rattle.pt_manual.specs.RiscvWalk.{manual, step_at}
 use Rattle.pt_manual.specs.declared.step.Step.TheVariants.{Page}
-use Rattle.pt_manual.specs.Granting.{allowed}
-use Rattle.fmt_nine_bit.specs.OverPages.{found, found_page, step_by}
+use Rattle.fmt_nine_bit.specs.OverPages.{found, step_by}
 use Rattle.fmt_nine_bit.specs.ManualLayout.{IsReadBy}
-use Rattle.fmt_nine_bit.proofs.NineBitWalks.{granted_is, walk_by_steps}
+use Rattle.fmt_nine_bit.proofs.BlockFacts.{in_block}
+use Rattle.fmt_nine_bit.proofs.NineBitWalks.{page_found, page_given, walk_by_steps}
+use Rattle.fmt_nine_bit.proofs.PermissionFacts.{one_permission}
 use Rattle.fmt_riscv.specs.RiscvWords.{AreLevels, IsSingle, IsSixteen, three, four, five, leaf, layout, of_leaf, pointer, words}
 use Rattle.fmt_riscv.specs.Sizes.{IsSizeOf, an_entry, of_sixteen, size_of}
 use Rattle.fmt_riscv.specs.RiscvFacts.{leaf_of_entry, leaf_small, not_four, pointer_step, single_step, sixteen_step}
@@ -40,13 +39,6 @@ lawful_layout levels are =
     has_page (three e) = subst (λ n. IsTrue (is_size (layout n) 0)) (sym e) refl
     has_page (four e) = subst (λ n. IsTrue (is_size (layout n) 0)) (sym e) refl
     has_page (five e) = subst (λ n. IsTrue (is_size (layout n) 0)) (sym e) refl
-
-one_permission : (p q : Prot) → IsTrue (is_common p) → IsTrue (is_common q) → of_leaf p ≡ of_leaf q → p ≡ q
-one_permission p q stated stated' =
-    of_common (λ x. of_leaf x ≡ of_leaf q → x ≡ q)
-    (of_common (λ y. of_leaf Read ≡ of_leaf y → Read ≡ y) (λ e. refl) (λ e. absurd (omega arith)) q stated')
-    (of_common (λ y. of_leaf ReadWrite ≡ of_leaf y → ReadWrite ≡ y) (λ e. absurd (omega arith)) (λ e. refl) q stated')
-    p stated
 
 leaf_some : (prot : Prot) → IsTrue (is_common prot) → 2 ≤ of_leaf prot
 leaf_some = of_common (λ prot. 2 ≤ of_leaf prot) (omega arith) (omega arith)
@@ -101,13 +93,13 @@ words_differ levels are = record {
       elim (leaf_word are level j out part (leaf j out p) p may refl).0 [
         | a_single s x ↦
             elim (leaf_word are level k out' part' (leaf k out' q) q may' refl).0 [
-              | a_single s' x' ↦ (omega (arith, s, s'), one_permission p q may.stated may'.stated (omega (arith, x.within, x'.within, x.word_is, x'.word_is, e)))
+              | a_single s' x' ↦ (omega (arith, s, s'), one_permission of_leaf (λ e. omega arith) p q may.stated may'.stated (omega (arith, x.within, x'.within, x.word_is, x'.word_is, e)))
               | a_sixteen z' s' x' ↦ absurd (omega (arith, x.within, x'.within, x.word_is, x'.word_is, e))
             ]
         | a_sixteen z s x ↦
             elim (leaf_word are level k out' part' (leaf k out' q) q may' refl).0 [
               | a_single s' x' ↦ absurd (omega (arith, x.within, x'.within, x.word_is, x'.word_is, e))
-              | a_sixteen z' s' x' ↦ (omega (arith, s, s'), one_permission p q may.stated may'.stated (omega (arith, x.within, x'.within, x.word_is, x'.word_is, e)))
+              | a_sixteen z' s' x' ↦ (omega (arith, s, s'), one_permission of_leaf (λ e. omega arith) p q may.stated may'.stated (omega (arith, x.within, x'.within, x.word_is, x'.word_is, e)))
             ]
       ];
 }
@@ -127,43 +119,15 @@ gives_leaf {levels} are level log2 out part word prot may is =
           ∙ ap (λ k. Page (out * 2 ^ 12) (12 + k) (may_read prot) (may_write prot)) (sym s)
     ]
 
--- the place of a page in its block
-place : (m first here : ℕ) → first % m ≡ 0 → first ≤ here → here < first + m → here % m ≡ here - first
-place m first here aligned from to =
-    let whole = div-add-mod first m in
-    let less : here - first < m = omega arith in
-    let is : here ≡ first / m * m + (here - first) = omega (arith, whole) in
-    ap (λ n. n % m) is ∙ mod-mul-add (first / m) m (here - first) less
-
-in_block : {levels : ℕ} → AreLevels levels → (level log2 out part first here : ℕ) (prot : Prot) → MayBeLeaf (layout levels) level log2 out prot part →
-    IsUnder (layout levels) level log2 first part here → here % 2 ^ log2 ≡ here - first
-in_block {levels} are level log2 out part first here prot may under =
-    place (2 ^ log2) first here under.aligned (let from = under.from in omega arith)
-    (let room = part_room level log2 part (size_of levels level log2 are may.a_size may.at_level).0 may.a_part in
-    let to = under.to in omega arith)
-  where
-    part_room : (level log2 part : ℕ) → IsSizeOf level log2 → part < 2 ^ (log2 - 9 * level) → (part + 1) * 2 ^ (9 * level) ≤ 2 ^ log2
-    part_room level log2 part (an_entry e) low =
-        let one : 2 ^ (log2 - 9 * level) ≡ 1 = let z : log2 - 9 * level ≡ 0 = omega arith in ap (λ (k : ℕ). 2 ^ k) z in
-        let none : part ≡ 0 = omega arith in
-        let same : (part + 1) * 2 ^ (9 * level) ≡ (0 + 1) * 2 ^ (9 * level) = ap (λ p. (p + 1) * 2 ^ (9 * level)) none in
-        let size : 2 ^ log2 ≡ 2 ^ (9 * level) = ap (λ (k : ℕ). 2 ^ k) e in
-        omega arith
-    part_room level log2 part (of_sixteen z e) low =
-        let few : part < 2 ^ (4 - 9 * 0) = subst (λ k. part < 2 ^ (4 - 9 * k)) z (subst (λ k. part < 2 ^ (k - 9 * level)) e low) in
-        let same : (part + 1) * 2 ^ (9 * level) ≡ (part + 1) * 2 ^ (9 * 0) = ap (λ k. (part + 1) * 2 ^ (9 * k)) z in
-        let size : 2 ^ log2 ≡ 2 ^ 4 = ap (λ (k : ℕ). 2 ^ k) e in
-        omega arith
+at_least : {level log2 : ℕ} → IsSizeOf level log2 → 9 * level ≤ log2
+at_least (an_entry e) = omega arith
+at_least (of_sixteen z e) = omega arith
 
 -- the page that the manual's step finds at a leaf
 pub leaf_found : {levels : ℕ} → AreLevels levels → (level log2 out part word here : ℕ) (prot : Prot) → MayBeLeaf (layout levels) level log2 out prot part →
     word ≡ leaf log2 out prot → step_by manual level word here ≡ page (out + here % 2 ^ log2) prot
 leaf_found {levels} are level log2 out part word here prot may is =
-    let bits : 12 + log2 - 12 ≡ log2 = omega arith in
-    let out_is : out * 2 ^ 12 / 2 ^ 12 + here % 2 ^ (12 + log2 - 12) ≡ out + here % 2 ^ log2 = rw bits (omega arith) in
-    ap (found here) (gives_leaf are level log2 out part word prot may is)
-    ∙ ap (λ n. found_page n (allowed (may_read prot) (may_write prot))) out_is
-    ∙ ap (found_page (out + here % 2 ^ log2)) (granted_is prot)
+    page_found manual level word here out log2 prot (gives_leaf are level log2 out part word prot may is)
 
 pub steps_agree : (levels : ℕ) → AreLevels levels → StepsAgree (layout levels)
 steps_agree levels are = record {
@@ -172,7 +136,7 @@ steps_agree levels are = record {
       ap (found here) (pointer_step level (pointer address) address (record { above = at.above; a_frame = frame; word_is = refl }));
   leaf = λ level log2 out part first here prot may under.
       leaf_found are level log2 out part (leaf log2 out prot) here prot may refl
-      ∙ ap (λ (n : ℕ). page (out + n) prot) (in_block are level log2 out part first here prot may under);
+      ∙ ap (λ (n : ℕ). page (out + n) prot) (in_block (at_least (size_of levels level log2 are may.a_size may.at_level).0) may under);
   any_page = λ level word log2 here prot l within.
       record {
         out = l.out + here % 2 ^ log2;
@@ -185,13 +149,7 @@ is_read_by : (levels : ℕ) → AreLevels levels → IsReadBy manual (layout lev
 is_read_by levels are = record {
   empty = λ level. refl;
   leaf_is = λ level word log2 prot l.
-      record {
-        address = l.out * 2 ^ 12;
-        log2 = 12 + log2;
-        whole = omega arith;
-        wide = omega arith;
-        step_is = gives_leaf are level log2 l.out l.part word prot l.may l.word_is;
-      };
+      page_given manual level word l.out log2 prot (gives_leaf are level log2 l.out l.part word prot l.may l.word_is);
   pointer_is = λ level word address p.
       pointer_step level word address (record { above = p.at_level.above; a_frame = p.a_frame; word_is = p.word_is });
 }

@@ -105,14 +105,6 @@ aligned_bytes granule k n aligned =
     ∙ ap (λ w. n / 2 ^ k * w) (sym both) in
     eq-eqb _ _ (ap (λ m. m % 2 ^ (granule + k)) product ∙ multiple (n / 2 ^ k) (granule + k))
 
--- the place of a page in what begins at a multiple
-pub place : (k first here : ℕ) → first % 2 ^ k ≡ 0 → first ≤ here → here < first + 2 ^ k → here % 2 ^ k ≡ here - first
-place k first here aligned from to =
-    let own = whole first k aligned in
-    let less : here - first < 2 ^ k = omega arith in
-    let is : here ≡ first / 2 ^ k * 2 ^ k + (here - first) = omega arith in
-    ap (λ n. n % 2 ^ k) is ∙ mod_low (first / 2 ^ k) k (here - first) less
-
 -- own pages as those of a part of a greater block
 pub record IsPart (own k more : ℕ) : Type 0 where
   pub out : ℕ

@@ -3,15 +3,15 @@ use Rattle.std.proofs.Common.{◌≡◌, ℕ, ◌+◌, ◌-◌, ◌*◌, ◌/◌
 use Rattle.std.specs.Prelude.{IsTrue}
 use Rattle.std.proofs.lemmas.Nat.{mod_below, pow_pos, shl-shr}
 use Rattle.pt_model.specs.declared.block.Prot.{Prot}
-use Rattle.pt_model.specs.declared.block.Prot.TheVariants.{Read, ReadWrite}
-use Rattle.pt_model.specs.Layout.{is_common, is_size, level_of_size, page}
+use Rattle.pt_model.specs.Layout.{is_size, level_of_size, page}
 use Rattle.pt_format.specs.Words.{MayBeLeaf, IsPointer, IsTableAddress}
 use Rattle.pt_format.specs.Laws.{HasConstants, IsLayout, WordsDiffer}
 use Rattle.pt_format.specs.Manual.{StepsAgree}
-use Rattle.pt_format.proofs.Permissions.{of_common}
 use Rattle.pt_manual.specs.VmsaWalk.{BLOCK, IsGranule, descriptor_at, index_bits}
+use Rattle.fmt_nine_bit.proofs.BlockFacts.{place}
+use Rattle.fmt_nine_bit.proofs.PermissionFacts.{one_permission}
 use Rattle.fmt_vmsa.specs.VmsaWords.{IsEntry, IsPointerOf, entry_size, found, in_group, layout, leaf, levels_of, of_leaf, pointer, size_of}
-use Rattle.fmt_vmsa.specs.Granules.{by_granule, few_levels, granule_range, place, room, room_above}
+use Rattle.fmt_vmsa.specs.Granules.{by_granule, few_levels, granule_range, room, room_above}
 use Rattle.fmt_vmsa.specs.VmsaFacts.{empty_descriptor, entry_descriptor, group_of, leaf_small, low_of, pointer_descriptor}
 use Rattle.fmt_vmsa.specs.VmsaSizes.{entry_aligned, entry_of, is_size_of, leaf_size}
 
@@ -50,14 +50,7 @@ lawful_layout {granule} is =
       states_both = refl;
     }
 
--- the attributes tell the permission, and bit 52 whether an entry is of a group
-one_permission : (level : ℕ) (p q : Prot) → IsTrue (is_common p) → IsTrue (is_common q) → of_leaf level p ≡ of_leaf level q → p ≡ q
-one_permission level p q stated stated' =
-    of_common (λ x. of_leaf level x ≡ of_leaf level q → x ≡ q)
-    (of_common (λ y. of_leaf level Read ≡ of_leaf level y → Read ≡ y) (λ e. refl) (λ e. absurd (omega arith)) q stated')
-    (of_common (λ y. of_leaf level ReadWrite ≡ of_leaf level y → ReadWrite ≡ y) (λ e. absurd (omega arith)) (λ e. refl) q stated')
-    p stated
-
+-- bit 52 tells whether an entry is of a group
 one_group : (c d : Bool) → in_group c ≡ in_group d → c ≡ d
 one_group true true e = refl
 one_group true false e = absurd (omega arith)
@@ -97,7 +90,7 @@ module _ {granule : ℕ} (is : IsGranule granule) where
         let x' = entry_of is may' (leaf granule level j out p part) e in
         let group = one_group _ _ (sym (entry_group x) ∙ entry_group x') in (
           (leaf_size is may).size_is ∙ ap (size_of granule level) group ∙ sym (leaf_size is may').size_is,
-          one_permission level p q may.stated may'.stated (sym (entry_low x) ∙ entry_low x'),
+          one_permission (of_leaf level) (λ e. omega arith) p q may.stated may'.stated (sym (entry_low x) ∙ entry_low x'),
         );
   }
 
@@ -131,7 +124,7 @@ module _ {granule : ℕ} (is : IsGranule granule) where
         (let from = under.from in
         let to = under.to in
         let aligned = entry_aligned is may first under.aligned in
-        let begins = place (entry_size granule level) (first + part * 2 ^ entry_size granule level) here aligned from (omega arith) in
+        let begins = place (2 ^ entry_size granule level) (first + part * 2 ^ entry_size granule level) here aligned from (omega arith) in
         omega arith);
     any_page = λ level word log2 here prot l within.
         let x = entry_of is l.may word l.word_is in

@@ -1,10 +1,10 @@
 -- The manual's walk is the walk by steps, over the words of VMSAv8-64 tables.
-use Rattle.std.proofs.Common.{◌≡◌, ℕ, zero, suc, ◌+◌, ◌-◌, ◌*◌, ◌/◌, ◌%◌, ◌^◌, ◌<◌, ◌≤◌, refl, ap, ap₂, sym, subst, ◌∙◌, arith, List, Some, None, Bool, true, false}
-use Rattle.std.specs.Prelude.{nat_le, nat_lt, ◌&&◌, ◌==◌, if◌then◌else◌}
+use Rattle.std.proofs.Common.{◌≡◌, ℕ, zero, suc, ◌+◌, ◌-◌, ◌*◌, ◌/◌, ◌%◌, ◌^◌, ◌<◌, ◌≤◌, refl, ap, ap₂, sym, subst, ◌∙◌, arith, List, Some, true, false}
+use Rattle.std.specs.Prelude.{nat_le, nat_lt, ◌&&◌, ◌==◌}
 use Rattle.std.proofs.lemmas.Bool.{eq-eqb, and_from, le-leb, lt-ltb, lt-leb, ltb-true, ltb-false}
 use Rattle.std.proofs.lemmas.Nat.{shl-shr, shr-shr}
 use native.Mathlib.Nat.{mod-eq_of_lt}
-use Rattle.pt_model.specs.Layout.{Found, nothing, page, table, alien, at_byte, Reached}
+use Rattle.pt_model.specs.Layout.{at_byte, Reached}
 use Rattle.pt_model.specs.Pages.{page_at}
 use Rattle.pt_model.specs.Words.{frames_in, root_frame, root_level, entry}
 use Rattle.pt_format.specs.Manual.{IsWalk, IsRooted, IsRead, OnWay, Onward, an_empty, a_leaf, a_table, by_steps, follow, entry_for}
@@ -12,6 +12,7 @@ use Rattle.pt_manual.specs.NineBitWalk.{names_frame}
 use Rattle.pt_manual.specs.VmsaWalk.{IsGranule, descriptor_at, followed, index_at, index_bits, start_level, walk, walk_from}
 use Rattle.pt_manual.specs.declared.descriptor.Descriptor.TheVariants.{Invalid, Table, Page}
 use Rattle.fmt_nine_bit.specs.OverPages.{reached}
+use Rattle.fmt_nine_bit.proofs.NineBitWalks.{onward_all, picked, unpicked}
 use Rattle.fmt_vmsa.specs.VmsaWords.{entry_size, found, layout, levels_of}
 use Rattle.fmt_vmsa.specs.Granules.{by_granule, few_levels, multiple, two_digits}
 use Rattle.fmt_vmsa.specs.VmsaFacts.{empty_descriptor, entry_descriptor, pointer_descriptor}
@@ -33,23 +34,7 @@ one_byte granule k own address =
     let low = two_digits address granule k in
     omega arith
 
-picked : (b : Bool) (x here : ℕ) → (if b then Some x else None) ≡ Some here → (b ≡ true) × (x ≡ here)
-picked true x here e = (refl, (let w : x ≡ here = cc in w))
-picked false x here e = absurd (let w : ⊥ = cc in w)
-
-unpicked : (b : Bool) (x : ℕ) → (if b then Some x else None) ≡ None → b ≡ false
-unpicked true x e = absurd (let w : ⊥ = cc in w)
-unpicked false x e = refl
-
 module _ {granule : ℕ} (is : IsGranule granule) where
-  -- what holds on the way holds on it by what follows from it
-  onward_all : {P Q : ℕ → Type 0} → ((frame : ℕ) → P frame → Q frame) → (found : Found) → Onward (layout granule) P found →
-      Onward (layout granule) Q found
-  onward_all all nothing on = tt
-  onward_all all (page out prot) on = tt
-  onward_all all (table t) on = all ((t - 2 ^ 32) / 2 ^ granule) on
-  onward_all all alien on = tt
-
   named : (words : List ℕ) (frame : ℕ) → frame < frames_in (layout granule) words →
       names_frame granule words (2 ^ 32 + frame * 2 ^ granule) ≡ true
   named words frame low =
@@ -103,7 +88,7 @@ module _ {granule : ℕ} (is : IsGranule granule) where
       ap (λ k. reached (followed granule words address (3 - level) (walk_from granule words address level) (descriptor_at granule (3 - level) k))) same
       ∙ on_word words address here level (entry_for (layout granule) words frame level here)
       (by_steps (layout granule) words address here level) here_is way.0
-      (onward_all (λ frame' way'. walks_from words address here here_is level frame' (omega arith) way')
+      (onward_all (layout granule) (λ frame' way'. walks_from words address here here_is level frame' (omega arith) way')
       (found granule here (descriptor_at granule (3 - level) (entry_for (layout granule) words frame level here))) way.1)
 
   rooted : (words : List ℕ) → IsRooted (layout granule) words →

@@ -72,7 +72,7 @@ module _ (f : Layout) (v w : View) (ready : IsReady f v) (va len : ℕ) where
       let is : unmap_answer (machine_in f v) (book_in v) va len ≡ unmapping.Unmapped (pages_gone (book_in v) first count) = answer_by None e in
       let now : blocks_of w.pieces ≡ after_it.blocks = blocks_are f w after_it.blocks done.rest in
       record {
-        ready = record { rest = subst (IsAtRest f w) (sym now) done.rest; levels = done.range.levels ∙ ready.levels };
+        ready = subst (IsAtRest f w) (sym now) done.rest;
         machine = same_machine done.range;
         answers = ap unmapping.Unmapped done.pages ∙ sym is;
         book = (λ i. record { first = done.range.first i; count = done.range.count i; blocks = now i; tables = done.tables i; top = done.top i })

@@ -30,10 +30,9 @@ book_in v = book_of v (blocks_of v.pieces)
 abbrev pub machine_in : Layout → View → Machine
 machine_in f v = machine f v.levels v.frames
 
--- the holder is at rest, and all levels of its format are there from the start
-pub record IsReady (f : Layout) (v : View) : Type 0 where
-  pub rest : IsAtRest f v (blocks_of v.pieces)
-  pub levels : v.levels ≡ f.levels
+-- the holder is at rest
+abbrev pub IsReady : Layout → View → Type 0
+IsReady f v = IsAtRest f v (blocks_of v.pieces)
 
 -- What a command does to the holder: it is ready again as the same machine, and its answer and its book are those of the
 -- book machine.

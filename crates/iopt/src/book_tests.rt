@@ -8,6 +8,7 @@ use crate::status::Status;
 use crate::text::push_reply;
 use crate::top::run;
 use crate::words::Words;
+use fmt_amdv1::AmdV1;
 use fmt_riscv::RiscV;
 use fmt_vmsa::Vmsa;
 use fmt_vtdss::VtdSs;
@@ -21,7 +22,7 @@ use std::alloc::Global;
 use std::test::Fail;
 
 /// A format, by its name in a script and the log2 of the bytes of its pages, and numbers of frames to run scripts in.
-/// The input space ends at `end`, and its last page begins at `last`; so for the outputs.
+/// The input space ends at `end`, which is 0 for `2^64`, and its last page begins at `last`; so for the outputs.
 #[derive(Clone, Copy)]
 pub(crate) struct FormatCase {
     pub name: &'static [u8],
@@ -37,7 +38,37 @@ pub(crate) struct FormatCase {
 }
 
 /// The formats that run. Their frames are one, as many as the levels, two more than those, twice as many, and sixty.
-pub(crate) const FORMATS: [FormatCase; 11] = [
+pub(crate) const FORMATS: [FormatCase; 14] = [
+    FormatCase {
+        name: b"amdv1 levels 3",
+        granule: 12,
+        end: 0,
+        last: 0xffff_ffff_ffff_f000,
+        outputs_end: 0x10_0000_0000_0000,
+        last_output: 0xf_ffff_ffff_f000,
+        borders: [0x1_0000, 0x20_0000, 0x4000_0000],
+        frames: [1, 3, 5, 6, 60],
+    },
+    FormatCase {
+        name: b"amdv1 levels 4",
+        granule: 12,
+        end: 0,
+        last: 0xffff_ffff_ffff_f000,
+        outputs_end: 0x10_0000_0000_0000,
+        last_output: 0xf_ffff_ffff_f000,
+        borders: [0x1_0000, 0x20_0000, 0x4000_0000],
+        frames: [1, 4, 6, 8, 60],
+    },
+    FormatCase {
+        name: b"amdv1 levels 6",
+        granule: 12,
+        end: 0,
+        last: 0xffff_ffff_ffff_f000,
+        outputs_end: 0x10_0000_0000_0000,
+        last_output: 0xf_ffff_ffff_f000,
+        borders: [0x1_0000, 0x20_0000, 0x4000_0000],
+        frames: [1, 6, 8, 12, 60],
+    },
     FormatCase {
         name: b"vtdss3",
         granule: 12,
@@ -215,6 +246,7 @@ fn book_replies<F: Format>(alloc: Global, script: &Script) -> Result<Vec<u8>, Fa
 
 fn replies_by_book(alloc: Global, script: &Script) -> Result<Vec<u8>, Fail> {
     match script.format {
+        Name::AmdV1 => book_replies::<AmdV1>(alloc, script),
         Name::VtdSs3 => book_replies::<VtdSs<3>>(alloc, script),
         Name::VtdSs4 => book_replies::<VtdSs<4>>(alloc, script),
         Name::VtdSs5 => book_replies::<VtdSs<5>>(alloc, script),
@@ -226,7 +258,6 @@ fn replies_by_book(alloc: Global, script: &Script) -> Result<Vec<u8>, Fail> {
         Name::Sv39 => book_replies::<RiscV<3>>(alloc, script),
         Name::Sv48 => book_replies::<RiscV<4>>(alloc, script),
         Name::Sv57 => book_replies::<RiscV<5>>(alloc, script),
-        _ => Ok(Vec::new(alloc)),
     }
 }
 

@@ -1,6 +1,6 @@
 //! The run of commands on a new space.
 
-ghost use Rattle.std.specs.Prelude.{◌≡◌, ◌<◌, ◌≤◌, IfOk, IsTrue, false};
+ghost use Rattle.std.specs.Prelude.{◌≡◌, ◌<◌, ◌≤◌, IfOk, IsTrue};
 ghost use Rattle.pt_model.specs.Words.{frame_limit};
 ghost use Rattle.pt_model.specs.Run.{run_of};
 ghost use Rattle.pt_model.specs.Text.{replies_text};
@@ -21,7 +21,6 @@ use pt_walk::{OutsideLease, lookup};
 use std::alloc::Global;
 
 fn map_range<F: Format>(plain: &mut Plain<F>, va: u64, pa: u64, len: u64, prot: Prot) -> MapAnswer
-    requires fixed { F.layout.grows ≡ false }
     requires ready { IsReady F.layout plain.old.view }
     requires alone { plain.old.aside ≡ none_aside }
     ensures aside { plain.new.aside ≡ plain.old.aside }
@@ -68,7 +67,6 @@ fn look_up<F: Format>(plain: &mut Plain<F>, va: u64) -> LookupAnswer
 
 /// Answers a command.
 fn answer<F: Format>(plain: &mut Plain<F>, what: What) -> Answer
-    requires fixed { F.layout.grows ≡ false }
     requires small { IsTrue (has_small_blocks F.layout) }
     requires ready { IsReady F.layout plain.old.view }
     requires alone { plain.old.aside ≡ none_aside }
@@ -94,9 +92,9 @@ pub fn run_commands<F: Format>(
     hold: u32,
     commands: &[Command],
 ) -> Result<Vec<u8>, Memory>
-    requires fixed { F.layout.grows ≡ false }
     requires small { IsTrue (has_small_blocks F.layout) }
-    requires levels { levels ≡ F.layout.levels }
+    requires low { F.layout.start ≤ levels }
+    requires high { levels ≤ F.layout.levels }
     requires few { frames ≤ frame_limit F.layout }
     requires hold { hold < frames }
     requires built { IsTrue (are_built commands.now) }

@@ -136,7 +136,7 @@ fn scripts_are_answered(rt: HostRuntime) -> Result<(), Fail> {
 }
 
 // Inputs that are refused, each with its first bad line and the reason.
-const REFUSED: [(&[u8], u32, Reason); 12] = [
+const REFUSED: [(&[u8], u32, Reason); 11] = [
     (b"", 1, Reason::Ended),
     (
         b"format vtdss3\nframes 8\nhold 0\nclose\nend",
@@ -167,11 +167,6 @@ const REFUSED: [(&[u8], u32, Reason); 12] = [
         b"format vtdss3\nframes 0\nhold 0\nclose\nend\n",
         2,
         Reason::Limit,
-    ),
-    (
-        b"format amdv1 levels 4\nframes 8\nhold 0\nclose\nend\n",
-        1,
-        Reason::Unbuilt,
     ),
     (
         b"format vtdss3\nframes 8\nhold 1\nrelease\nclose\nend\n",

@@ -1,107 +1,173 @@
-//! Loads: requests by a rule, mapped one after another and then looked up.
+//! Loads: steps by a rule, each a map or an unmap, made one after another; then lookups of their ranges.
 
 ghost use Rattle.std.specs.Prelude.{◌≡◌, ◌≤◌, IfOk, false};
+ghost use Rattle.pt_model.specs.Words.{frame_limit};
 ghost use Rattle.pt_walk.specs.Walks.{Rests};
 
 use pt_format::{Format, Prot};
 use pt_map::map;
 use pt_num::Memory;
 use pt_plain::Plain;
+use pt_sweep::unmap;
 use pt_walk::lookup;
 use std::alloc::Global;
 
-/// The frames of the space, all but the root's in the purse.
+/// The frames of the space where the format has as many, all but the root's in the purse.
 const FRAMES: u32 = 8192;
 
-/// The output address from which the requests' outputs go up.
+/// The output address from which the outputs go up.
 const OUTPUTS: u64 = 1 << 40;
 
-/// A kind of requests.
+/// A kind of steps. A page is the format's, and a block is what an entry above the lowest table maps.
 #[derive(Clone, Copy, Debug, PartialEq, Eq)]
 pub enum Load {
     /// Pages that follow each other.
     Pages,
-    /// Blocks of 2 MiB that follow each other.
+    /// Blocks that follow each other.
     Blocks,
-    /// What a driver maps: a block, a page, sixteen pages, each at a 2 MiB of its own.
+    /// Sixteen pages that follow each other.
+    Sixteen,
+    /// What a driver maps: a block, a page, sixteen pages, each at a block's range of its own.
     Driver,
     /// Runs of 1 GiB whose outputs are one page off alignment, so that only pages tile them.
     Gigabytes,
+    /// A page is mapped, and is taken away by the next step.
+    Unmap,
+    /// What a driver does: the three of `Driver`, and the block of them is taken away.
+    Mix,
 }
 
-/// How many requests were mapped and found.
+/// What is to be run.
+#[derive(Clone, Copy, Debug, PartialEq, Eq)]
+pub struct Work {
+    pub load: Load,
+    pub count: u32,
+    pub lookups: bool,
+}
+
+/// How many steps were made, and how many of their ranges were then found.
 #[derive(Clone, Copy, Debug, PartialEq, Eq)]
 pub struct Tally {
-    pub mapped: u32,
+    pub made: u32,
     pub found: u32,
 }
 
-/// A range to be mapped, in bytes.
+/// What a step does to its range.
 #[derive(Clone, Copy, Debug, PartialEq, Eq)]
-struct Request {
+enum Act {
+    Map,
+    Unmap,
+}
+
+/// A step: its range in bytes, and where its output begins.
+#[derive(Clone, Copy, Debug, PartialEq, Eq)]
+struct Step {
+    act: Act,
     va: u64,
     pa: u64,
     len: u64,
 }
 
-/// Request number `number` of a load.
-fn request_at(load: Load, number: u32) -> Request {
-    let number = u64::from(number);
-    let (bits, len, off) = match load {
-        Load::Pages => (12, 0x1000, 0),
-        Load::Blocks => (21, 0x20_0000, 0),
-        Load::Driver => match number % 3 {
-            0 => (21, 0x20_0000, 0),
-            1 => (21, 0x1000, 0),
-            _ => (21, 0x1_0000, 0),
-        },
-        Load::Gigabytes => (30, 0x4000_0000, 0x1000),
-    };
-    let va = number << bits;
-    Request {
+/// The log2 of the bytes of a block.
+fn block_bits<F: Format>() -> u32
+    ensures { result ≤ 32 }
+{
+    F::GRANULE + F::INDEX
+}
+
+/// The bytes of the range that a driver maps, by its place in the driver's turn.
+fn driver_bytes<F: Format>(place: u32) -> u64 {
+    match place {
+        0 => 1 << block_bits::<F>(),
+        1 => 1 << F::GRANULE,
+        _ => 16 << F::GRANULE,
+    }
+}
+
+/// The map of so many bytes at range number `number`, where ranges have `2^bits` bytes, onto those that are
+/// `off` bytes from the range's own.
+fn map_at(number: u32, bits: u32, len: u64, off: u64) -> Step
+    requires { bits ≤ 32 }
+{
+    let va = u64::from(number) << bits;
+    Step {
+        act: Act::Map,
         va,
-        pa: va.wrapping_add(OUTPUTS + off),
+        pa: va.wrapping_add(OUTPUTS).wrapping_add(off),
         len,
     }
 }
 
-/// Maps a request, and answers how many were mapped.
-fn map_one<F: Format>(plain: &mut Plain<F>, request: Request) -> u32
+fn taken_away(step: Step) -> Step {
+    Step {
+        act: Act::Unmap,
+        ..step
+    }
+}
+
+/// Step number `number` of a load.
+fn step_at<F: Format>(load: Load, number: u32) -> Step {
+    let page = 1 << F::GRANULE;
+    let bits = block_bits::<F>();
+    match load {
+        Load::Pages => map_at(number, F::GRANULE, page, 0),
+        Load::Blocks => map_at(number, bits, 1 << bits, 0),
+        Load::Sixteen => map_at(number, F::GRANULE + 4, 16 << F::GRANULE, 0),
+        Load::Driver => map_at(number, bits, driver_bytes::<F>(number % 3), 0),
+        Load::Gigabytes => map_at(number, 30, 1 << 30, page),
+        Load::Unmap => {
+            let step = map_at(number / 2, F::GRANULE, page, 0);
+            if number % 2 == 0 {
+                step
+            } else {
+                taken_away(step)
+            }
+        }
+        Load::Mix => match number % 4 {
+            3 => taken_away(map_at(number - 3, bits, 1 << bits, 0)),
+            place => map_at(number, bits, driver_bytes::<F>(place), 0),
+        },
+    }
+}
+
+/// Makes a step, and answers how many were made: none where it is refused.
+fn make_step<F: Format>(plain: &mut Plain<F>, step: Step) -> u32
     requires fixed { F.layout.grows ≡ false }
     requires rest { Rests F.layout plain.old.view }
     ensures rest { Rests F.layout plain.new.view }
     ensures one { result ≤ 1 }
 {
-    let Request { va, pa, len } = request;
-    match map::<F, Plain<F>>(plain, va, pa, len, Prot::ReadWrite) {
-        Ok(()) => 1,
-        Err(_) => 0,
-    }
+    let Step { act, va, pa, len } = step;
+    let made = match act {
+        Act::Map => map::<F, Plain<F>>(plain, va, pa, len, Prot::ReadWrite).is_ok(),
+        Act::Unmap => unmap::<F, Plain<F>>(plain, va, len).is_ok(),
+    };
+    u32::from(made)
 }
 
-/// Looks a request's first byte up, and answers how many were found.
-fn find_one<F: Format>(plain: &mut Plain<F>, request: Request) -> u32
+/// Looks the first byte of a step's range up, and answers how many were found.
+fn find_one<F: Format>(plain: &mut Plain<F>, step: Step) -> u32
     requires rest { Rests F.layout plain.old.view }
     ensures rest { Rests F.layout plain.new.view }
     ensures one { result ≤ 1 }
 {
-    match lookup::<F, Plain<F>>(plain, request.va) {
+    match lookup::<F, Plain<F>>(plain, step.va) {
         Ok(Some(_)) => 1,
         _ => 0,
     }
 }
 
-fn map_all<F: Format>(plain: &mut Plain<F>, load: Load, count: u32) -> u32
+fn make_all<F: Format>(plain: &mut Plain<F>, load: Load, count: u32) -> u32
     requires fixed { F.layout.grows ≡ false }
     requires rest { Rests F.layout plain.old.view }
     ensures rest { Rests F.layout plain.new.view }
     ensures most { result ≤ count }
 {
-    let mut mapped = 0;
+    let mut made = 0;
     for number in 0..count {
-        mapped += map_one(plain, request_at(load, number));
+        made += make_step(plain, step_at::<F>(load, number));
     }
-    mapped
+    made
 }
 
 fn find_all<F: Format>(plain: &mut Plain<F>, load: Load, count: u32) -> u32
@@ -111,29 +177,37 @@ fn find_all<F: Format>(plain: &mut Plain<F>, load: Load, count: u32) -> u32
 {
     let mut found = 0;
     for number in 0..count {
-        found += find_one(plain, request_at(load, number));
+        found += find_one(plain, step_at::<F>(load, number));
     }
     found
 }
 
-/// Maps so many requests of a load in a new space, and looks them up where it is asked for.
-pub fn run_load<F: Format>(
-    alloc: Global,
-    load: Load,
-    count: u32,
-    lookups: bool,
-) -> Result<Tally, Memory>
-    requires fixed { F.layout.grows ≡ false }
-    requires granule { F.layout.granule ≡ 12 }
-    ensures mapped { IfOk result (λ tally. tally.mapped ≤ count) }
-    ensures found { IfOk result (λ tally. tally.found ≤ count) }
+/// The frames of a space of this format.
+fn frames_of<F: Format>() -> u32
+    ensures some { 1 ≤ result }
+    ensures few { result ≤ frame_limit F.layout }
 {
-    let mut plain = Plain::<F>::make(alloc, FRAMES, F::LEVELS, FRAMES - 1)?;
-    let mapped = map_all(&mut plain, load, count);
+    u32::min(FRAMES, 1 << (27 - F::GRANULE))
+}
+
+/// Makes the steps of a work in a new space, and looks their ranges up where it is asked for.
+pub fn run_load<F: Format>(alloc: Global, work: Work) -> Result<Tally, Memory>
+    requires fixed { F.layout.grows ≡ false }
+    ensures made { IfOk result (λ tally. tally.made ≤ work.count) }
+    ensures found { IfOk result (λ tally. tally.found ≤ work.count) }
+{
+    let Work {
+        load,
+        count,
+        lookups,
+    } = work;
+    let frames = frames_of::<F>();
+    let mut plain = Plain::<F>::make(alloc, frames, F::LEVELS, frames - 1)?;
+    let made = make_all(&mut plain, load, count);
     let found = if lookups {
         find_all(&mut plain, load, count)
     } else {
         0
     };
-    Ok(Tally { mapped, found })
+    Ok(Tally { made, found })
 }

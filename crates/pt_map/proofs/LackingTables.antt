@@ -8,7 +8,7 @@ use Rattle.pt_model.specs.Layout.{Layout}
 use Rattle.pt_model.specs.Book.{is_linked}
 use Rattle.pt_model.specs.Sets.{IsSorted, IsAmong, places}
 use Rattle.pt_model.specs.Tables.{end_of_table, is_spine, position_over, all_needed, least_top}
-use Rattle.pt_model.proofs.Positions.{sorted_filter, among_filtered, among_passes, places_append, sorted_once, among_append, among_left, among_right, any_among, among_any, Once, length_within, same_length}
+use Rattle.pt_model.proofs.Positions.{sorted_filter, among_filtered, among_passes, places_append, sorted_once, filter_members, among_append, among_left, among_right, any_among, among_any, Once, length_within, same_length}
 use Rattle.pt_format.specs.Laws.{IsLayout}
 use Rattle.pt_view.specs.declared.view.View.{View}
 use Rattle.pt_view.specs.declared.view.Absence.{Absence}
@@ -35,7 +35,7 @@ module _ {f : Layout} (good : IsLayout f) (v : View) (blocks : List Block) {x : 
       let low = needed_below f v.levels x.first x.out (x.end - x.first) x.prot good.has_pages (λ k a. omega (arith, good.sizes_low k a, good.start_low)) (omega arith) part.in_output p needed in
       or_left (is_spine v.levels p && nat_le p.level v.top) _ (and_from (is_spine v.levels p) _ spine (le-leb p.level v.top (omega arith)))
 
-  table_linked : (p : Position) → IsAmong v.tables p → is_linked v.levels (book_of v blocks) p ≡ true
+  pub table_linked : (p : Position) → IsAmong v.tables p → is_linked v.levels (book_of v blocks) p ≡ true
   table_linked p h = or_right (is_spine v.levels p && nat_le p.level v.top) _ (among_any v.tables p (h))
 
   not_linked : (p : Position) → (¬ IsAmong v.tables p) → is_spine v.levels p ≡ false → is_linked v.levels (book_of v blocks) p ≡ false
@@ -66,7 +66,7 @@ module _ {f : Layout} (good : IsLayout f) (v : View) (blocks : List Block) {x : 
   pub lacking_once : Once (lacking f v blocks x)
   lacking_once = sorted_once (lacking f v blocks x) (sorted_filter _ (all_needed f v.levels (tiles f x)) (needs_sorted f v.levels (tiles f x)))
 
-  is_unknown : (p : Position) → IsAmong (lacking f v blocks x) p → (¬ IsAmong v.known p) → IsAmong (unknown f v blocks x) p
+  pub is_unknown : (p : Position) → IsAmong (lacking f v blocks x) p → (¬ IsAmong v.known p) → IsAmong (unknown f v blocks x) p
   is_unknown p lacks unknown =
       among_passes (λ q. not (nat_lt 0 (places q v.known))) (lacking f v blocks x) p lacks
       (not_from_false (nat_lt 0 (places p v.known)) (false_from_ne_true (nat_lt 0 (places p v.known)) (λ e. unknown (ltb-true 0 (places p v.known) e))))
@@ -117,21 +117,33 @@ module _ {f : Layout} (good : IsLayout f) (v : View) (blocks : List Block) {x : 
       pub absent_all : length absent ≡ length (lacking f v blocks x)
       absent_all = same_length absent (lacking f v blocks x) once lacking_once absent_lacks lacks_absent
 
-  -- the tables after a map are those before, but for those that blocks take the place of, and the lacking ones
-  pub tables_more : least_top f v.levels x.end ≤ v.top → (tables : List Position) → IsSorted v.tables → IsSorted tables →
+  -- those off the spine
+  abbrev pub lacking_off : List Position
+  lacking_off = filter (λ p. not (is_spine v.levels p)) (lacking f v blocks x)
+
+  pub lacks_off : (p : Position) → IsAmong lacking_off p → IsAmong (tables_of f x) p × (¬ IsAmong v.tables p) × (is_spine v.levels p ≡ false)
+  lacks_off p h =
+      let o = among_filtered (λ q. not (is_spine v.levels q)) (lacking f v blocks x) p h in
+      let off : is_spine v.levels p ≡ false = not-true (is_spine v.levels p) o.1 in
+      let r = among_filtered (λ q. not (is_linked v.levels (book_of v blocks) q)) (all_needed f v.levels (tiles f x)) p o.0 in
+      let no : is_linked v.levels (book_of v blocks) p ≡ false = not-true (is_linked v.levels (book_of v blocks) p) r.1 in
+      ((same_off p off).0 r.0, (λ there. false≢true (sym no ∙ table_linked p there)), off)
+
+  -- the tables after a map are those before, but for those that blocks take the place of, and the lacking ones off the spine
+  pub tables_more : (tables : List Position) → IsSorted v.tables → IsSorted tables →
       ((p : Position) → IsAmong tables p ↔ ((IsAmong v.tables p × (is_replaced f (tiles f x) p ≡ false)) ⊎ (IsAmong (tables_of f x) p × (is_spine v.levels p ≡ false)))) →
-      length tables + length (replaced f v (tiles f x)) ≡ length v.tables + length (lacking f v blocks x)
-  tables_more top tables sorted sorted_after same =
-      let more : List Position = lacking f v blocks x in
+      length tables + length (replaced f v (tiles f x)) ≡ length v.tables + length lacking_off
+  tables_more tables sorted sorted_after same =
+      let more : List Position = lacking_off in
       let stays : Position → Bool = λ p. not (is_replaced f (tiles f x) p) in
       let left : List Position = filter stays v.tables in
       let once : Once (left ++ more) = (λ p.
       let sum = places_append p left more in
-      let a = sorted_once left (sorted_filter stays v.tables sorted) p in let b = lacking_once p in
+      let a = sorted_once left (sorted_filter stays v.tables sorted) p in let b = off_once p in
       elim (cases_lt 0 (places p more)) [
         | inr none ↦ omega arith
         | inl some ↦ elim (cases_lt 0 (places p left)) [
-          | inl both ↦ absurd ((lacks top p some).1 (among_filtered stays v.tables p both).0)
+          | inl both ↦ absurd ((lacks_off p some).1 (among_filtered stays v.tables p both).0)
           | inr none ↦ omega arith
         ]
       ]) in
@@ -141,12 +153,21 @@ module _ {f : Layout} (good : IsLayout f) (v : View) (blocks : List Block) {x : 
         | inl old ↦ among_left p left more (among_passes stays v.tables p old.0 (ap not old.1))
         | inr new ↦ elim (cases_lt 0 (places p v.tables)) [
           | inl old ↦ among_left p left more (among_passes stays v.tables p old (ap not (needed_stays good part p new.0)))
-          | inr none ↦ among_right p left more (is_lacking p new.0 (λ there. omega arith) new.1)
+          | inr none ↦ among_right p left more
+              (among_passes (λ q. not (is_spine v.levels q)) (lacking f v blocks x) p (is_lacking p new.0 (λ there. omega arith) new.1) (ap not new.1))
         ]
       ])
       (λ p h. (same p).1 (elim (among_append p left more h) [
         | inl old ↦ (let r = among_filtered stays v.tables p old in inl (r.0, not-true (is_replaced f (tiles f x) p) r.1))
-        | inr new ↦ (let l = lacks top p new in inr (l.0, l.2))
+        | inr new ↦ (let l = lacks_off p new in inr (l.0, l.2))
       ])) in
       let sum = length-append left more in
       let parts = two_parts (is_replaced f (tiles f x)) v.tables in omega arith
+    where
+      off_once : Once lacking_off
+      off_once = sorted_once lacking_off (sorted_filter (λ p. not (is_spine v.levels p)) (lacking f v blocks x)
+          (sorted_filter _ (all_needed f v.levels (tiles f x)) (needs_sorted f v.levels (tiles f x))))
+
+  -- where the top reaches over the extent, all are off the spine
+  pub all_off : least_top f v.levels x.end ≤ v.top → lacking_off ≡ lacking f v blocks x
+  all_off top = filter_members (λ p. not (is_spine v.levels p)) (lacking f v blocks x) (λ p h. ap not (lacks top p h).2)

@@ -8,6 +8,7 @@ mod TopsOver
 mod NeededTables
 mod ReplacedTables
 mod PastRoot
+mod NearRoot
 mod LackingTables
 -- The numbers of a request, and where the way to its extent stands.
 mod RequestNumbers
@@ -34,3 +35,5 @@ mod MapFromTable
 mod MapResults
 mod MapFromRoot
 mod MapAnswers
+mod BeyondMapped
+mod BeyondAnswers

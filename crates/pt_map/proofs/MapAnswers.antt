@@ -56,7 +56,7 @@ module _ {f : Layout} (good : IsLayout f) {tells alone alone_d : Type 0} {v u d 
     mapped = is_mapped m;
   }
   answers_by (Err e) m = record {
-    stays = subst (IsRefused f tells v) (sym at_rest) (results.stays_refused good here m h.reached.begun.may.rest.1.path);
+    stays = subst (IsRefused f tells v) (sym at_rest) (results.stays_by good here m.stays h.reached.begun.may.rest.1.path);
     purse = subst (λ (y : View). KeepsPurse v y e) (sym at_rest) (results.keeps_purse good here w e m.purse);
     refused = λ blocks rest. results.is_refused good (standing good h.reached blocks rest) alone_d linked w e m.cause;
     wants = λ blocks rest. subst (λ (y : View). IsWanting f tells v y blocks x e) (sym at_rest) (results.is_wanting good (standing good h.reached blocks rest) alone_d linked w e m.cause);
@@ -81,7 +81,7 @@ module _ {f : Layout} (good : IsLayout f) {tells alone alone_d : Type 0} {v u d 
         subst (λ (y : View). LinksAll f v y aside blocks x) (sym at_rest)
         (results.links_all good (standing good h.reached blocks rest) m aside is a (top_over good h.reached lone) h.reached.range.under (owns_table good h.reached owned))
     accounts_by (Err e) m =
-        let s = results.stays_refused good here m h.reached.begun.may.rest.1.path in (
+        let s = results.stays_by good here m.stays h.reached.begun.may.rest.1.path in (
           ap (λ (y : View). linked_count y aside) at_rest ∙ linked_same v (rested w) aside s.range s.book,
           λ blocks rest. subst (λ (n : ℕ). IsShortOf f v n blocks x e) is
               (results.is_short_of good (standing good h.reached blocks rest) alone_d linked w a (top_over good h.reached lone) h.reached.range.under (owns_table good h.reached owned) e m.cause),

@@ -31,7 +31,7 @@ use Rattle.pt_map.specs.Requests.{LacksFrames, MappedBelow, HasCause, RefusedBel
 use Rattle.pt_map.proofs.AbsentCounted.{own_on, shown_right}
 use Rattle.pt_map.proofs.BlocksAdded.{Apart, adds_pieces, in_order_from}
 use Rattle.pt_map.proofs.FirstMapped.{first_mapped, free_apart, none_mapped}
-use Rattle.pt_map.proofs.LackingTables.{absent_all, absent_few, absent_most, absent_shown, tables_more}
+use Rattle.pt_map.proofs.LackingTables.{absent_all, absent_few, absent_most, absent_shown, all_off, tables_more}
 use Rattle.pt_map.specs.Replaced.{is_replaced, replaced}
 use Rattle.pt_map.specs.Filled.{top_with}
 use Rattle.pt_map.proofs.TopsOver.{top_of_tiling}
@@ -190,7 +190,8 @@ module _ {f : Layout} (good : IsLayout f) {tells : Type 0} {v d : View} {blocks 
       links_all =
           let all = all_here alone a reach under over m.absent m.are_absent.once m.are_absent.missing (m.are_absent.all a) in
           let room = m.room a in let frames = frames_same in
-          let more = tables_more good v blocks stand.extent stand.start stand.few reach w.tables stand.sorted sorted_after tables_same in
+          let more = tables_more good v blocks stand.extent stand.start stand.few w.tables stand.sorted sorted_after tables_same in
+          let every = ap length (all_off good v blocks stand.extent stand.start stand.few reach) in
           let top : w.top ≡ v.top = (let after = top_after in let some = stand.extent.some in
           let ends : x.first + (x.end - x.first) ≡ x.end = omega arith in
           let least : least_top f v.levels (x.first + (x.end - x.first)) ≡ least_top f v.levels x.end = ap (least_top f v.levels) ends in omega arith) in
@@ -205,23 +206,32 @@ module _ {f : Layout} (good : IsLayout f) {tells : Type 0} {v d : View} {blocks 
           let right = length-append m.used w.purse in
           record { enough = omega arith; linked = omega arith; none_lost = omega arith }
 
-  -- The extent was refused.
-  module _ {alone : Type 0} {linked : ℕ} {w : View} {e : MapRefused} (r : RefusedBelow f tells alone linked d w x level e) where
-    pub stays_refused : v.path ≡ [] → IsRefused f tells v (rested w)
-    stays_refused path =
-        let s = r.stays in
-        record {
-          range = range_rested v w (range_on stand.walked.range s.range);
-          book = book_rested v w (book_on stand.walked.book s.book);
-          path = sym path;
-          prepared = s.prepared ∙ stand.walked.prepared;
-          end = s.end ∙ stand.walked.purse.end;
-          purse = (s.purse.0, s.purse.1 ∙ ap (λ (xs : List ℕ). s.purse.0 ++ xs) purse_same);
-          known = λ p k. s.known p (stand.walked.known p k);
-          busy = λ frame k. s.busy frame ((stand.walked.busy frame).1 k);
-          grew = λ t. let g = s.grew t in grew_on w t g.0 (g.1, g.2);
-          stores = λ t. s.stores t ∙ stand.walked.stores t;
-        }
+  -- A refusal from view d on is one from view v on.
+  pub stays_by : {w : View} → IsRefused f tells d w → v.path ≡ [] → IsRefused f tells v (rested w)
+  stays_by {w = w} s path = record {
+    range = range_rested v w (range_on stand.walked.range s.range);
+    book = book_rested v w (book_on stand.walked.book s.book);
+    path = sym path;
+    prepared = s.prepared ∙ stand.walked.prepared;
+    end = s.end ∙ stand.walked.purse.end;
+    purse = (s.purse.0, s.purse.1 ∙ ap (λ (xs : List ℕ). s.purse.0 ++ xs) purse_same);
+    known = λ p k. s.known p (stand.walked.known p k);
+    busy = λ frame k. s.busy frame ((stand.walked.busy frame).1 k);
+    grew = λ t. let g = s.grew t in grew_on w t g.0 (g.1, g.2);
+    stores = λ t. s.stores t ∙ stand.walked.stores t;
+  }
+
+  pub each_by : {w : View} → tells → FindsEach d w → FindsEach v (rested w)
+  each_by t each = record {
+    drawn = each.drawn;
+    lost = each.lost;
+    purse = each.purse ∙ ap (λ (xs : List ℕ). each.drawn ++ xs) purse_same;
+    taken = each.taken ∙ ap (λ (xs : List ℕ). xs ++ each.lost) (stand.walked.taken t);
+    each = λ frame less. elim (each.each frame (subst (λ (k : ℕ). frame < k) (sym frames_same) less)) [
+      | inl held ↦ inl (subst (λ (xs : List ℕ). IsIn xs frame) purse_same held)
+      | inr other ↦ inr other
+    ];
+  }
 
   pub keeps_purse : (w : View) (e : MapRefused) → KeepsPurse d w e → KeepsPurse v (rested w) e
   keeps_purse w (refused.NoFrames absent held) k = tt
@@ -243,18 +253,6 @@ module _ {f : Layout} (good : IsLayout f) {tells : Type 0} {v d : View} {blocks 
 
     -- want of frames
     module _ {absent held : ℕ} (n : Counted f tells alone d w (tables_below f x level) (d.frames + 1) absent) (l : LacksFrames tells alone linked d w absent held) where
-      each_found : tells → FindsEach d w → FindsEach v (rested w)
-      each_found t each = record {
-        drawn = each.drawn;
-        lost = each.lost;
-        purse = each.purse ∙ ap (λ (xs : List ℕ). each.drawn ++ xs) purse_same;
-        taken = each.taken ∙ ap (λ (xs : List ℕ). xs ++ each.lost) (stand.walked.taken t);
-        each = λ frame less. elim (each.each frame (subst (λ (k : ℕ). frame < k) (sym frames_same) less)) [
-          | inl held ↦ inl (subst (λ (xs : List ℕ). IsIn xs frame) purse_same held)
-          | inr other ↦ inr other
-        ];
-      }
-
       wants : WantsFrames f tells v (rested w) blocks x absent held
       wants = record {
         more = l.more;
@@ -263,7 +261,7 @@ module _ {f : Layout} (good : IsLayout f) {tells : Type 0} {v d : View} {blocks 
         idle = λ over. l.idle (let s = frames_same in omega arith) ∙ purse_same;
         tried = λ t. elim (l.tried t) [
           | inl over ↦ inl (let s = frames_same in omega arith)
-          | inr each ↦ inr (each_found t each)
+          | inr each ↦ inr (each_by t each)
         ];
       }
 

@@ -1,6 +1,6 @@
 -- Of the tables that an extent needs, those that end past the pages under the root: the others are those of its part there.
 use Rattle.std.proofs.Common.{◌≡◌, ℕ, ◌+◌, ◌-◌, ◌*◌, ◌/◌, ◌^◌, ◌<◌, ◌≤◌, ◌⊎◌, List, [], ◌∷◌, ◌++◌, length, true, refl, ap, sym, subst, ◌∙◌, arith, inl, inr}
-use Rattle.std.specs.Prelude.{filter, map, not}
+use Rattle.std.specs.Prelude.{filter, map, min, not}
 use Rattle.std.proofs.lemmas.Bool.{cases_lt, ltb-false, le-ltb, not-true}
 use Rattle.std.proofs.lemmas.Nat.{div_below, mod_below, mul-le, pow-add, pow_below, pow_pos, shr_split}
 use Rattle.std.proofs.lemmas.List.Filters.{length-filter_both}
@@ -8,7 +8,7 @@ use Rattle.std.proofs.lemmas.List.FromFn.{length-map-range_with_len}
 use Rattle.pt_model.specs.declared.block.Block.{Block}
 use Rattle.pt_model.specs.declared.block.Prot.{Prot}
 use Rattle.pt_model.specs.declared.position.Position.{Position}
-use Rattle.pt_model.specs.Layout.{Layout, end_of, level_of_size, pages, pages_of_entry, pages_of_table}
+use Rattle.pt_model.specs.Layout.{Layout, end_of, input_pages, level_of_size, pages, pages_of_entry, pages_of_table}
 use Rattle.pt_model.specs.Sets.{IsAmong}
 use Rattle.pt_model.specs.Tables.{all_needed, end_of_table, least_top, levels_between, needed, position_over, spine_position}
 use Rattle.pt_model.specs.Tiling.{IsTiling}
@@ -72,18 +72,36 @@ spine_needed f n prot (b ∷ bs) first out left level t some low up =
           (levels_in spine_position (n - 1) (least_top f n (end_of b)) level low (let e = ap (least_top f n) ends in omega arith)))
     ]
 
+-- a page past the table of a level at page 0 needs a top above the level
+pub above_reach : (f : Layout) (n end level : ℕ) → level < f.levels → pages_of_table f level < end → level < least_top f n end
+above_reach f n end level below past = elim (cases_lt level (least_top f n end)) [
+  | inl fine ↦ fine
+  | inr less ↦ absurd (let within = above_top f n end level below (omega arith) in omega arith)
+]
+
+-- and isn't past that of the highest level
+pub last_reaches : (f : Layout) (end level : ℕ) → level < f.levels → end ≤ pages_of_table f (f.levels - 1) → pages_of_table f level < end → level + 1 < f.levels
+last_reaches f end level below within past = elim (cases_lt (level + 1) f.levels) [
+  | inl fine ↦ fine
+  | inr high ↦ absurd (let wide = table_mono f (f.levels - 1) level (omega arith) in omega arith)
+]
+
+-- there are far fewer input pages than the greatest number
+pub input_few : {f : Layout} → IsLayout f → input_pages f < 2 ^ 63
+input_few {f} good = let high = good.pages_high in let few : 2 ^ (f.input - f.granule) ≤ 2 ^ 52 = power_mono (f.input - f.granule) 52 (omega arith) in omega arith
+
+-- where a table at page 0 ends, as the code has it
+pub reach_is : {f : Layout} → IsLayout f → {x : Extent} → IsExtent f x → (root : ℕ) → {reach : ℕ} → reach ≡ min (pages_of_table f root) (2 ^ 63) → pages_of_table f root < x.end → reach ≡ pages_of_table f root
+reach_is {f} good {x} part root is past =
+    let input = part.in_input in let high = good.pages_high in
+    let few : 2 ^ (f.input - f.granule) ≤ 2 ^ 52 = power_mono (f.input - f.granule) 52 (omega arith) in omega arith
+
 -- The root's table is too low for an extent.
 module _ {f : Layout} (good : IsLayout f) {x : Extent} (part : IsExtent f x) (n root : ℕ) (start : f.start ≤ n) (low : n - 1 ≤ root) (past : pages_of_table f root < x.end) where
   abbrev pub reach : ℕ
   reach = pages_of_table f root
 
-  -- it is far below the greatest number
-  pub reach_small : reach < 2 ^ 63
-  reach_small =
-      let input = part.in_input in let high = good.pages_high in
-      let few : 2 ^ (f.input - f.granule) ≤ 2 ^ 52 = power_mono (f.input - f.granule) 52 (omega arith) in omega arith
-
-  small : first_size f x < f.index * (root + 1)
+  pub small : first_size f x < f.index * (root + 1)
   small =
       let some = index_some good in
       let size = good.sizes_low (first_size f x) (size_greatest good part).legal.a_size in
@@ -91,7 +109,7 @@ module _ {f : Layout} (good : IsLayout f) {x : Extent} (part : IsExtent f x) (n 
       let h = mul-le (first_size f x / f.index) f.index root f.index (omega arith) (omega arith) in
       let c : root * f.index + f.index ≡ f.index * (root + 1) = omega arith in omega arith
 
-  low_spine : (level : ℕ) → pages_of_table f level ≤ reach → level ≤ root
+  pub low_spine : (level : ℕ) → pages_of_table f level ≤ reach → level ≤ root
   low_spine level within = elim (cases_lt root level) [
     | inr fine ↦ fine
     | inl above ↦ absurd (
@@ -115,10 +133,7 @@ module _ {f : Layout} (good : IsLayout f) {x : Extent} (part : IsExtent f x) (n 
   ]
 
   pub past_top : root < least_top f n x.end
-  past_top = elim (cases_lt root (least_top f n x.end)) [
-    | inl fine ↦ fine
-    | inr less ↦ absurd (let few = root_low in let within = above_top f n x.end root (omega arith) (omega arith) in omega arith)
-  ]
+  past_top = above_reach f n x.end root (let few = root_low in omega arith) past
 
   abbrev pub all : List Position
   all = all_needed f n (tiles f x)
@@ -126,22 +141,25 @@ module _ {f : Layout} (good : IsLayout f) {x : Extent} (part : IsExtent f x) (n 
   tiling_here : IsTiling f x.prot x.first x.out (x.end - x.first) (tiles f x)
   tiling_here = extent_tiling good part
 
-  -- the spine up to the root is needed
-  spine_here : (level : ℕ) → n - 1 ≤ level → level ≤ root → IsAmong all (spine_position level)
-  spine_here level from to =
-      let some = part.some in let top = past_top in
+  -- the spine up to the top is needed
+  pub spine_above : (level : ℕ) → n - 1 ≤ level → level ≤ least_top f n x.end → IsAmong all (spine_position level)
+  spine_above level from to =
+      let some = part.some in
       let ends : x.first + (x.end - x.first) ≡ x.end = omega arith in
       any_needs f n (tiles f x) (spine_position level)
       (spine_needed f n x.prot (tiles f x) x.first x.out (x.end - x.first) level tiling_here (omega arith) from (let e = ap (least_top f n) ends in omega arith))
 
+  spine_here : (level : ℕ) → n - 1 ≤ level → level ≤ root → IsAmong all (spine_position level)
+  spine_here level from to = spine_above level from (let top = past_top in omega arith)
+
   -- a position that isn't past the root ends with it or before
-  not_past : (p : Position) → not (reaches_past f root p) ≡ true → end_of_table f p ≤ reach
+  pub not_past : (p : Position) → not (reaches_past f root p) ≡ true → end_of_table f p ≤ reach
   not_past p h = ltb-false reach (end_of_table f p) (not-true (reaches_past f root p) h)
 
-  is_not_past : (p : Position) → end_of_table f p ≤ reach → not (reaches_past f root p) ≡ true
+  pub is_not_past : (p : Position) → end_of_table f p ≤ reach → not (reaches_past f root p) ≡ true
   is_not_past p ends = ap not (le-ltb reach (end_of_table f p) ends)
 
-  abbrev under_root : List Position
+  abbrev pub under_root : List Position
   under_root = filter (λ p. not (reaches_past f root p)) all
 
   -- all needed positions are those past the root and the others
@@ -150,7 +168,7 @@ module _ {f : Layout} (good : IsLayout f) {x : Extent} (part : IsExtent f x) (n 
 
   -- No page of the extent is under the root: the others are the spine.
   module _ (beyond : reach ≤ x.first) where
-    spine_alone : under_root ≡ map spine_position (levels_between (n - 1) root)
+    pub spine_alone : under_root ≡ map spine_position (levels_between (n - 1) root)
     spine_alone = same_members _ _ (sorted_filter _ all (needs_sorted f n (tiles f x))) (sorted_levels spine_position (λ i. refl) (root + 1 - (n - 1)) (n - 1))
         (λ p m.
         let r = among_filtered (λ q. not (reaches_past f root q)) all p m in
@@ -187,19 +205,22 @@ module _ {f : Layout} (good : IsLayout f) {x : Extent} (part : IsExtent f x) (n 
         let whole : (x.first / pages_of_entry f (root + 1) + 1) * pages_of_entry f (root + 1) ≡ reach = ap (λ (q : ℕ). (q + 1) * pages_of_entry f (root + 1)) none ∙ (let e : (0 + 1) * reach ≡ reach = omega arith in e) in
         omega arith
 
-    parted : tiles f x ≡ tiles f near ++ tiles f (from x reach)
+    pub parted : tiles f x ≡ tiles f near ++ tiles f (from x reach)
     parted = (split_tiles good part (root + 1) small).0 ∙ ap (λ (e : ℕ). tiles f (up_to x e) ++ tiles f (from x e)) under_is
+
+    pub far_block : (b : Block) → IsOneBlock (tiles f (from x reach)) b → reach ≤ b.first
+    far_block b h = (tile_of good (rest_part good part reach (omega arith) past) b h).from
 
     near_block : (b : Block) → IsOneBlock (tiles f x) b → b.first < reach → IsOneBlock (tiles f near) b
     near_block b h before = elim (one_of_both (tiles f near) (tiles f (from x reach)) b (subst (λ (bs : List Block). IsOneBlock bs b) parted h)) [
       | inl here ↦ here
-      | inr later ↦ absurd (let t = (tile_of good (rest_part good part reach (omega arith) past) b later).from in omega arith)
+      | inr later ↦ absurd (let t = far_block b later in omega arith)
     ]
 
     near_tiling : IsTiling f x.prot x.first x.out (reach - x.first) (tiles f near)
     near_tiling = extent_tiling good near_part
 
-    near_all : under_root ≡ all_needed f n (tiles f near)
+    pub near_all : under_root ≡ all_needed f n (tiles f near)
     near_all = same_members _ _ (sorted_filter _ all (needs_sorted f n (tiles f x))) (needs_sorted f n (tiles f near))
         (λ p m.
         let r = among_filtered (λ q. not (reaches_past f root q)) all p m in

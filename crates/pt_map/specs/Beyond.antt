@@ -1,5 +1,5 @@
 -- A map past the pages that the root reaches: the top is raised over them.
-use Rattle.std.specs.Prelude.{◌≡◌, ◌⊎◌, ◌↔◌, ℕ, ◌+◌, ◌-◌, ◌<◌, ◌≤◌, IsTrue, List, ◌++◌, false, length, map, max, min, not, ◌&&◌, filter, None, Result, Ok, Err}
+use Rattle.std.specs.Prelude.{◌≡◌, ◌⊎◌, ◌↔◌, ℕ, ◌+◌, ◌-◌, ◌<◌, ◌≤◌, IsTrue, Bool, List, ◌++◌, false, length, map, max, min, not, ◌&&◌, filter, None, Result, Ok, Err}
 use Rattle.pt_model.specs.declared.position.Position.{Position}
 use Rattle.pt_model.specs.Layout.{Layout, pages_of_table}
 use Rattle.pt_model.specs.Pages.{byte_at}
@@ -12,6 +12,7 @@ use Rattle.pt_view.specs.declared.view.Absence.{Absence}
 use Rattle.pt_view.specs.declared.view.Change.TheVariants.{Written}
 use Rattle.pt_view.specs.Calls.{IsRootAt}
 use Rattle.pt_view.specs.Lists.{IsIn}
+use Rattle.pt_view.specs.Loads.{ByLoads}
 use Rattle.pt_view.specs.Pieces.{add_pieces, all_pieces}
 use Rattle.pt_view.specs.Views.{SameRange}
 use Rattle.pt_walk.specs.Walks.{IsFree, IsLowest, OwnsAll}
@@ -19,18 +20,19 @@ use Rattle.pt_sweep.specs.Sweeps.{IsBookTable}
 use Rattle.pt_sweep.specs.Raises.{AtRoot}
 use Rattle.pt_map.specs.declared.refused.MapRefused.{MapRefused}
 use Rattle.pt_map.specs.declared.refused.MapRefused.TheVariants as refused
+use Rattle.pt_map.specs.declared.survey.Found.{Found}
+use Rattle.pt_map.specs.declared.survey.Found.TheVariants.{Mapped, Absent}
 use Rattle.pt_map.specs.Absent.{Counted, is_shown}
 use Rattle.pt_map.specs.Answers.{IsRefused, KeepsPurse}
 use Rattle.pt_map.specs.Past.{past_root, reaches_past}
-use Rattle.pt_map.specs.Replaced.{is_replaced, replaced}
+use Rattle.pt_map.specs.Replaced.{HasNoneReplaced, is_replaced, replaced}
 use Rattle.pt_map.specs.Requests.{AreAbsent, LacksFrames}
 
 -- the needed tables under the root and off the spine
 abbrev pub near_root : Layout → (levels root : ℕ) → Extent → List Position
 near_root f levels root x = filter (λ p. not (reaches_past f root p) && not (is_spine levels p)) (all_needed f levels (tiles f x))
 
--- An extent may be mapped from the root, which is too low for it: no table that is linked or known reaches past the root's
--- pages.
+-- An extent may be mapped from the root, which is too low for it: no table of the book reaches past the root's pages.
 pub record MayMapBeyond (f : Layout) (v : View) (x : Extent) (root : ℕ) : Type 0 where
   pub at : AtRoot f v root
   pub extent : IsExtent f x
@@ -43,7 +45,24 @@ pub record MayMapBeyond (f : Layout) (v : View) (x : Extent) (root : ℕ) : Type
   pub tables : (p : Position) → IsAmong v.tables p → IsBookTable f v p
   pub once : (p : Position) → places p v.tables < 2
   pub over_tables : (p : Position) → IsAmong v.tables p → end_of_table f p ≤ pages_of_table f root
-  pub over_known : (p : Position) → IsAmong v.known p → end_of_table f p ≤ pages_of_table f root
+
+-- What lies under the root was looked through: the lowest mapped page, or that none is mapped, so many of the tables needed
+-- there are absent, and whether tables stand where blocks go.
+abbrev pub FindsNear : Layout → (tells alone : Type 0) → (v w : View) → Extent → (root cap : ℕ) → Found → Type 0
+FindsNear f tells alone v w x root cap (Mapped page) = IsLowest f v x.first x.end page
+FindsNear f tells alone v w x root cap (Absent count tables) =
+    IsFree f v x.first x.end × Counted f tells alone v w (near_root f v.levels root x) cap count × (tables ≡ false → HasNoneReplaced f v (tiles f x))
+
+pub record SurveyedNear (f : Layout) (tells alone : Type 0) (v w : View) (x : Extent) (root cap : ℕ) (found : Found) : Type 0 where
+  pub walked : ByLoads tells v w
+  pub path : w.path ≡ v.path
+  pub finds : FindsNear f tells alone v w x root cap found
+
+-- way may be made for an extent of which no page is mapped
+pub record MayMakeWayNear (f : Layout) (v : View) (x : Extent) (root : ℕ) (tables : Bool) : Type 0 where
+  pub may : MayMapBeyond f v x root
+  pub free : IsFree f v x.first x.end
+  pub none : tables ≡ false → HasNoneReplaced f v (tiles f x)
 
 -- An extent was mapped, from view v to view w, whose path is the root's table. Frames were drawn for the tables that were
 -- found absent under the root and for those past it, no more than the purse lacked, and no more were linked; over a lone

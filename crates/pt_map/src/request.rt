@@ -10,6 +10,7 @@ ghost use Rattle.pt_map.specs.Answers.{Accounts, Answers, extent_at};
 ghost use Rattle.pt_map.specs.Stands.{IsBlockOf};
 ghost use Rattle.pt_map.specs.Requests.{EndsBelow, Gathers, IsRefusedByNumbers, IsRequested, MayMap, MayMapBelow, occupied};
 
+use crate::beyond::map_beyond;
 use crate::fill::{fill, write_entry, write_run};
 use crate::refused::MapRefused;
 use crate::replace::make_way;
@@ -18,7 +19,7 @@ use pt_format::{Format, Prot, Span, byte_of, is_whole, range_of};
 use pt_sweep::draw;
 use pt_tile::Extent;
 use pt_view::Holder;
-use pt_walk::{Under, climb, descend, first_at, first_below};
+use pt_walk::{spine_end, Under, climb, descend, first_at, first_below};
 
 /// The extent that a request is, where its range may be mapped in a span by its numbers alone.
 fn extent_in<F: Format>(
@@ -56,7 +57,7 @@ fn extent_in<F: Format>(
 }
 
 /// Draws the frames that a purse lacks for so many absent tables.
-fn gather<F: Format, H: Holder<F>>(holder: &mut H, absent: u64) -> Result<(), MapRefused>
+pub(crate) fn gather<F: Format, H: Holder<F>>(holder: &mut H, absent: u64) -> Result<(), MapRefused>
     requires { (H.view holder.old).prepared ≡ None }
     ensures stays { Stays H.space H.aside H.alone holder.old holder.new }
     ensures gathers { Gathers H.tells (H.alone holder.old) (linked_count (H.view holder.old) (H.aside holder.old))
@@ -174,7 +175,8 @@ fn map_block<F: Format, H: Holder<F>>(
         (H.view holder.old) (H.view holder.new) extent level result }
 {
     if log2 == F::INDEX * level {
-        map_entry::<F, H>(holder, level, extent, log2)
+        // where the size is a constant, so is the level then
+        map_entry::<F, H>(holder, log2 / F::INDEX, extent, log2)
     } else {
         map_entries::<F, H>(holder, level, extent, log2)
     }
@@ -211,7 +213,6 @@ fn map_extent<F: Format, H: Holder<F>>(
     whole: bool,
 ) -> Result<(), MapRefused>
     requires may { MayMap F.layout (H.view holder.old) extent }
-    requires fixed { F.layout.grows ≡ false }
     requires size { log2 ≡ extents.first_size F.layout extent }
     requires whole { IsTrue whole → (F.layout.index * (log2 / F.layout.index) ≡ log2) × (extent.end ≡ extent.first + 2 ^ log2) }
     ensures stays { Stays H.space H.aside H.alone holder.old holder.new }
@@ -220,6 +221,11 @@ fn map_extent<F: Format, H: Holder<F>>(
     ensures accounted { H.alone holder.old → Accounts F.layout (H.view holder.old) (H.view holder.new) (H.aside holder.old) extent result }
 {
     let root = holder.root();
+    if F::GROWS && extent.end > spine_end::<F>(root) {
+        let mapped = map_beyond::<F, H>(holder, root, extent);
+        climb::<F, H>(holder, 1);
+        return mapped;
+    }
     let level = descend::<F, H>(
         holder,
         root,
@@ -252,7 +258,6 @@ pub fn map<F: Format, H: Holder<F>>(
 ) -> Result<(), MapRefused>
     requires rest { Rests F.layout (H.view holder.old) }
     requires stated { IsTrue (F.layout.states prot) }
-    requires fixed { F.layout.grows ≡ false }
     ensures stays { Stays H.space H.aside H.alone holder.old holder.new }
     ensures rests { Rests F.layout (H.view holder.new) }
     ensures answered { Answers F.layout H.tells (H.view holder.old) (H.view holder.new) (λ book. map_refusal F.layout book va pa len)

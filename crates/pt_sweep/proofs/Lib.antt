@@ -15,5 +15,7 @@ mod BookTables
 mod RangeNumbers
 mod CutBlocks
 mod Unmapped
+-- a range under one entry
+mod OneEntry
 -- and a root that is raised level by level
 mod RootRaised

@@ -1,21 +1,18 @@
 -- The root is raised by one level, or was raised by another holder, and so on level by level.
-use Rattle.std.proofs.Common.{◌≡◌, ℕ, ◌+◌, ◌*◌, ◌^◌, ◌<◌, ◌≤◌, List, [], ◌∷◌, ◌++◌, length, inl, inr, refl, ap, sym, subst, ◌∙◌, arith, append_assoc, length-append}
-use Rattle.std.specs.Prelude.{IsTrue, None, Some, max, min, nat_le}
+use Rattle.std.proofs.Common.{◌≡◌, ℕ, ◌+◌, ◌*◌, ◌<◌, ◌≤◌, List, [], ◌∷◌, ◌++◌, length, inl, inr, refl, ap, sym, subst, ◌∙◌, arith, append_assoc, length-append}
+use Rattle.std.specs.Prelude.{IsTrue, None, Some, min, nat_le}
 use Rattle.std.proofs.lemmas.Bool.{and_from, cases_lt, le-leb}
 use Rattle.std.proofs.lemmas.List.{append-nil}
 use Rattle.std.proofs.lemmas.Nat.{mul-le, pow_below}
-use Rattle.pt_model.specs.declared.position.Position.{Position}
 use Rattle.pt_model.specs.Layout.{Layout, pages_of_table}
 use Rattle.pt_model.specs.Sets.{IsAmong}
 use Rattle.pt_model.specs.Tables.{is_spine, spine_position, starting_top}
-use Rattle.pt_format.specs.Laws.{IsLayout}
 use Rattle.pt_view.specs.declared.view.View.{View}
 use Rattle.pt_view.specs.declared.view.Absence.{Absence}
 use Rattle.pt_view.specs.declared.view.Absence.TheVariants.{Top}
-use Rattle.pt_view.specs.declared.holder.Won.{Won}
 use Rattle.pt_view.specs.declared.holder.Won.TheVariants.{Yes, Met}
 use Rattle.pt_view.specs.Calls.{IsGrown, IsOutgrown, IsPlaced, IsRaised, IsRootAt, IsUnplaced, Rooted}
-use Rattle.pt_view.specs.Lists.{IsIn, SameFrames}
+use Rattle.pt_view.specs.Lists.{SameFrames}
 use Rattle.pt_view.proofs.Loads.{absences_on}
 use Rattle.pt_view.proofs.Stays.{range_here, range_on}
 use Rattle.pt_sweep.specs.Raises.{AtRoot, MayRaise, MayRaiseOne, Raises, RaisesAlone}

@@ -8,6 +8,7 @@ use Rattle.pt_model.specs.Layout.{Layout}
 use Rattle.pt_model.specs.Sets.{IsAmong}
 use Rattle.pt_model.proofs.Positions.{among_here, among_more, filter_in, filter_members, filter_out}
 use Rattle.pt_view.specs.declared.view.View.{View}
+use Rattle.pt_view.specs.declared.view.Node.{Node}
 use Rattle.pt_view.specs.declared.view.Piece.{Piece}
 use Rattle.pt_view.specs.declared.view.Change.{Change}
 use Rattle.pt_view.specs.declared.view.Change.TheVariants.{Cleared}
@@ -132,10 +133,10 @@ module _ {f : Layout} {tells alone : Type 0} where
         pages = sym (ap (pages_under f) gone);
       }
 
-  -- loads, then a sweep, and then the path's last table is left
-  pub back_sweeps : {alone' : Type 0} {v w u z : View} {n : ℕ} (p : Position → Bool) (a : Piece → Bool) → ByLoads tells v w → (alone → alone') → Sweeps f tells alone' p a w u n → z ≡ left u →
-      all_but_last w.path ≡ v.path → Sweeps f tells alone p a v z n
-  back_sweeps {v = v} {w = w} {u = u} {n = n} p a k still d back path = subst (λ (y : View). Sweeps f tells alone p a v y n) (sym back) (record {
+  -- loads, then a sweep, and then the path is the first one again
+  pub around_sweeps : {alone' : Type 0} {v w u z : View} {n : ℕ} (p : Position → Bool) (a : Piece → Bool) → ByLoads tells v w → (alone → alone') → Sweeps f tells alone' p a w u n →
+      z ≡ record u { path = v.path } → Sweeps f tells alone p a v z n
+  around_sweeps {v = v} {w = w} {u = u} {n = n} p a k still d back = subst (λ (y : View). Sweeps f tells alone p a v y n) (sym back) (record {
     range = record {
       frames = d.range.frames ∙ k.range.frames;
       levels = d.range.levels ∙ k.range.levels;
@@ -145,7 +146,7 @@ module _ {f : Layout} {tells alone : Type 0} where
     pieces = d.pieces ∙ ap (filter (λ x. not (a x))) k.book.pieces;
     top = d.top ∙ k.book.top;
     tables = d.tables ∙ ap (filter (λ x. not (p x))) k.book.tables;
-    path = ap all_but_last d.path ∙ path;
+    path = refl;
     prepared = d.prepared ∙ k.prepared;
     end = d.end ∙ k.purse.end;
     busy = λ x. ((λ h. (k.busy x).0 ((d.busy x).0 h)), (λ h. (d.busy x).1 ((k.busy x).1 h)));
@@ -161,6 +162,11 @@ module _ {f : Layout} {tells alone : Type 0} where
     absent = λ t. let x = absences_on (k.absent t) (d.absent t) in record { facts = x.facts; are = x.are };
     pages = d.pages ∙ ap (λ (xs : List Piece). pages_under f (filter a xs)) k.book.pieces;
   })
+
+  -- the same, where the path's last table is left
+  pub back_sweeps : {alone' : Type 0} {v w u z : View} {n : ℕ} (p : Position → Bool) (a : Piece → Bool) → ByLoads tells v w → (alone → alone') → Sweeps f tells alone' p a w u n → z ≡ left u →
+      all_but_last w.path ≡ v.path → Sweeps f tells alone p a v z n
+  back_sweeps {u = u} p a k still d back path = around_sweeps p a k still d (back ∙ ap (λ (xs : List Node). record u { path = xs }) (ap all_but_last d.path ∙ path))
 
   -- where no piece goes, tables are unlinked and no more
   pub only_unlinks : {v w : View} {n : ℕ} (p : Position → Bool) (a : Piece → Bool) → ((x : Piece) → IsOneOf v.pieces x → a x ≡ false) → Sweeps f tells alone p a v w n → Unlinks f tells alone p v w

@@ -1,11 +1,13 @@
 -- A range that was taken away, by the blocks of a view at rest.
-use Rattle.std.proofs.Common.{◌≡◌, ℕ, ◌+◌, false, List, ◌++◌, length, ap, subst, ◌∙◌, arith}
-use Rattle.std.specs.Prelude.{not, filter, find, map, Contains, None}
+use Rattle.std.proofs.Common.{◌≡◌, ℕ, ◌+◌, ◌/◌, ◌^◌, false, List, ◌++◌, length, ap, sym, subst, ◌∙◌, arith}
+use Rattle.std.specs.Prelude.{not, filter, find, map, Contains, None, option_map}
 use Rattle.pt_model.specs.declared.block.Block.{Block}
 use Rattle.pt_model.specs.declared.position.Position.{Position}
 use Rattle.pt_model.specs.Layout.{Layout}
 use Rattle.pt_model.specs.Book.{table_lies_in}
-use Rattle.pt_model.specs.Unmap.{is_cut}
+use Rattle.pt_model.specs.Pages.{page_under}
+use Rattle.pt_model.specs.Unmap.{CutsEntry, is_cut, unmap_refusal}
+use Rattle.pt_num.specs.declared.Span.{Span}
 use Rattle.pt_format.specs.Laws.{IsLayout}
 use Rattle.pt_view.specs.declared.view.View.{View}
 use Rattle.pt_view.specs.declared.view.Piece.{Piece}
@@ -13,11 +15,11 @@ use Rattle.pt_view.specs.declared.view.Change.{Change}
 use Rattle.pt_view.specs.declared.view.Change.TheVariants.{Cleared}
 use Rattle.pt_view.specs.Pieces.{IsOneOf, all_pieces}
 use Rattle.pt_view.specs.Loads.{ByLoads}
-use Rattle.pt_view.specs.Views.{IsAtRest}
+use Rattle.pt_view.specs.Views.{IsAtRest, book_of}
 use Rattle.pt_view.proofs.Loads.{absences_on}
 use Rattle.pt_view.proofs.Stays.{range_on}
 use Rattle.pt_sweep.specs.Sweeps.{CutsNone, SweepsIn, begins_in, pages_under}
-use Rattle.pt_sweep.specs.Unmaps.{IsUnmapped, book_without, blocks_gone}
+use Rattle.pt_sweep.specs.Unmaps.{IsRange, IsUnmapped, book_without, blocks_gone}
 use Rattle.pt_sweep.proofs.BlockPieces.{blocks_go, blocks_pages, blocks_stay, blocks_uncut}
 use Rattle.pt_sweep.proofs.CutBlocks.{found_none}
 
@@ -62,3 +64,12 @@ module _ {f : Layout} (good : IsLayout f) (blocks : List Block) (first count : �
       stores = λ t. s.stores t ∙ ap (λ (xs : List Change). xs ++ map Cleared (filter (begins_in f first (first + count)) w.pieces)) (k.stores t)
           ∙ ap (λ (xs : List Piece). v.stores ++ map Cleared xs) go;
     }
+
+-- what an unmap of the range of a request answers
+pub answers_ok : (f : Layout) (tells alone : Type 0) (v w : View) (blocks : List Block) (va len many first count : ℕ) (range : Span) → IsRange f first count va len range → first ≡ v.first → count ≡ v.count →
+    find (is_cut range.first (range.first + range.count)) blocks ≡ None → IsUnmapped f tells alone v w blocks range.first range.count many →
+    (unmap_refusal f (book_of v blocks) va len ≡ None) × IsUnmapped f tells alone v w blocks (page_under f va) (len / 2 ^ f.granule) many
+answers_ok f tells alone v w blocks va len many first count range asked at long none gone = (
+  asked.refusal (book_of v blocks) (sym at) (sym long) ∙ ap (option_map CutsEntry) none,
+  subst (λ (k : ℕ). IsUnmapped f tells alone v w blocks k (len / 2 ^ f.granule) many) asked.at.0 (subst (λ (k : ℕ). IsUnmapped f tells alone v w blocks range.first k many) asked.at.1 gone),
+)

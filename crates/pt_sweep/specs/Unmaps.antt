@@ -13,7 +13,9 @@ use Rattle.pt_view.specs.Lists.{SameFrames}
 use Rattle.pt_view.specs.Loads.{AddsAbsences, ByLoads}
 use Rattle.pt_view.specs.Pieces.{all_pieces}
 use Rattle.pt_view.specs.Views.{IsAtRest, SameRange, book_of}
+use Rattle.pt_walk.specs.RangeWalks.{rested}
 use Rattle.pt_num.specs.declared.Span.{Span}
+use Rattle.pt_sweep.specs.Sweeps.{SweepsBelow, SweepsIn}
 use Rattle.pt_sweep.specs.declared.refused.UnmapRefused.{UnmapRefused}
 use Rattle.pt_sweep.specs.declared.refused.UnmapRefused.TheVariants as refused
 
@@ -43,6 +45,19 @@ FindsCut f v first count found = (blocks : List Block) → IsAtRest f v blocks �
 abbrev pub FindsCutOver : Layout → View → (page first end : ℕ) → Option Block → Type 0
 FindsCutOver f v page first end found =
     (blocks : List Block) → IsAtRest f v blocks → found ≡ find (λ b. meets page (page + 1) b && is_cut first end b) blocks
+
+-- at rest the book has no block that a range cuts
+abbrev pub CutsNoBlock : Layout → View → (first end : ℕ) → Type 0
+CutsNoBlock f v first end = (blocks : List Block) → IsAtRest f v blocks → lowest_cut (book_of v blocks) first end ≡ None
+
+-- a range under one entry was swept, and no block was cut; or nothing was done but loads
+abbrev pub ClearsEntry : Layout → (tells alone : Type 0) → (first end level : ℕ) → (v w : View) → Option ℕ → Type 0
+ClearsEntry f tells alone first end level v w None = ByLoads tells v w × (w.path ≡ v.path)
+ClearsEntry f tells alone first end level v w (Some pages) = CutsNoBlock f (rested v) first end × SweepsBelow f tells alone first end level v w pages
+
+abbrev pub UnmapsEntry : Layout → (tells alone : Type 0) → (first count : ℕ) → (v w : View) → Option ℕ → Type 0
+UnmapsEntry f tells alone first count v w None = ByLoads tells v w × (w.path ≡ v.path)
+UnmapsEntry f tells alone first count v w (Some pages) = CutsNoBlock f v first (first + count) × SweepsIn f tells alone first count v w pages
 
 -- the book after a range is taken away, and the blocks that go
 abbrev pub book_without : Layout → View → List Block → (first count : ℕ) → Book

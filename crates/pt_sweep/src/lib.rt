@@ -8,6 +8,7 @@
 #![tactic(auto)]
 
 mod empty;
+mod entry;
 mod frames;
 mod refused;
 mod request;

@@ -9,6 +9,7 @@ ghost use Rattle.pt_walk.specs.RangeWalks.{HasSpan};
 ghost use Rattle.pt_walk.specs.Walks.{Rests};
 ghost use Rattle.pt_sweep.specs.Unmaps.{AnswersUnmap, FindsCut, FindsCutOver, IsRange, IsRefusedByNumbers};
 
+use crate::entry::{reaches_out, unmap_one};
 use crate::refused::UnmapRefused;
 use crate::sweep::sweep_span;
 use pt_format::{Block, Format, Span, is_whole, range_of};
@@ -32,14 +33,6 @@ fn range_in<F: Format>(span: Span, va: u64, len: u64) -> Result<Span, UnmapRefus
         return Err(UnmapRefused::OutsideLease);
     }
     Ok(range)
-}
-
-/// Whether a block begins before a range or ends behind it.
-fn reaches_out(block: Block, first: u64, end: u64) -> bool
-    requires { layout.end_of block ≤ 2 ^ 52 }
-    ensures { IsTrue result ↔ ((block.first < first) ⊎ (end < layout.end_of block)) }
-{
-    block.first < first || block.first + (1 << block.log2) > end
 }
 
 /// The block over a page of a range, where it begins before the range or ends behind it.
@@ -111,6 +104,9 @@ pub fn unmap<F: Format, H: Holder<F>>(
     ensures answered { AnswersUnmap F.layout H.tells (H.alone holder.old) (H.view holder.old) (H.view holder.new) va len result }
 {
     let range = range_in::<F>(holder.range(), va, len)?;
+    if let Some(pages) = unmap_one::<F, H>(holder, range) {
+        return Ok(pages);
+    }
     if let Some(block) = cut_block::<F, H>(holder, range) {
         return Err(UnmapRefused::CutsEntry { block });
     }

@@ -10,7 +10,7 @@ use pt_format::{Block, Format, Read};
 use pt_num::align_down;
 
 /// The block of which this word, in a table of this level, is the word over a page.
-pub(crate) fn block_of<F: Format>(level: u32, word: u64, page: u64) -> Block
+pub fn block_of<F: Format>(level: u32, word: u64, page: u64) -> Block
     requires some { (b : Block) × IsBlockOf F.layout level word page b }
     requires a_page { page < input_pages F.layout }
     ensures { (b : Block) → IsBlockOf F.layout level word page b → result ≡ b }

@@ -17,6 +17,7 @@ mod translate;
 mod walker;
 mod way;
 
+pub use block::block_of;
 pub use numbers::{entry_bits, entry_number, spine_end};
 pub use range::{Under, climb, descend, entry_end, first_at, first_below};
 pub use translate::{OutsideLease, lookup};

@@ -2,7 +2,7 @@ use fmt_vtdss::VtdSs;
 use pt_format::{Block, Prot, Span};
 use pt_map::{MapRefused, map};
 use pt_plain::Plain;
-use pt_sweep::draw;
+use pt_sweep::{draw, unmap};
 use pt_view::{Holder, Won};
 use pt_walk::{RangeWalk, first_mapped, lookup, next_block};
 
@@ -97,4 +97,43 @@ fn a_walk_gives_the_blocks_of_a_map(rt: HostRuntime) {
     walk.end(&mut owner);
     assert!(rt; next_block(&mut owner, ALL).is_some());
     assert!(rt; first_mapped(&mut owner, ALL) == Some(0x1ff));
+}
+
+#[test]
+fn a_block_goes_where_an_emptied_table_stands(rt: HostRuntime) {
+    let Ok(mut owner) = Plain::<VtdSs<3>>::make(rt.alloc(), 8, 3, 7) else {
+        panic!(rt; "no memory")
+    };
+    let page = map(&mut owner, 0x20_0000, 0x1000, 0x1000, Prot::ReadWrite);
+    assert!(rt; page == Ok(()));
+    let gone = unmap(&mut owner, 0x20_0000, 0x1000);
+    assert!(rt; gone == Ok(1));
+    assert_eq!(rt; owner.purse(), 5);
+    let block = map(&mut owner, 0x20_0000, 0x40_0000, 0x20_0000, Prot::Read);
+    assert!(rt; block == Ok(()));
+    assert_eq!(rt; owner.purse(), 6);
+    assert!(rt; lookup(&mut owner, 0x20_1234) == Ok(Some((0x40_1234, Prot::Read))));
+}
+
+#[test]
+fn blocks_among_pages_go_where_emptied_tables_stand(rt: HostRuntime) {
+    let Ok(mut owner) = Plain::<VtdSs<3>>::make(rt.alloc(), 8, 3, 7) else {
+        panic!(rt; "no memory")
+    };
+    let pages = map(&mut owner, 0x3f_f000, 0x1000, 0x2000, Prot::ReadWrite);
+    assert!(rt; pages == Ok(()));
+    let gone = unmap(&mut owner, 0x3f_f000, 0x2000);
+    assert!(rt; gone == Ok(2));
+    assert_eq!(rt; owner.purse(), 4);
+    let mapped = map(&mut owner, 0x1f_f000, 0x3f_f000, 0x40_2000, Prot::Read);
+    assert!(rt; mapped == Ok(()));
+    assert_eq!(rt; owner.purse(), 4);
+    let mut walk = RangeWalk::<VtdSs<3>>::begin(&mut owner, ALL);
+    let page = walk.next(&mut owner);
+    assert!(rt; numbers(page) == Some((0x1ff, 0, 0x3ff)));
+    let block = walk.next(&mut owner);
+    assert!(rt; numbers(block) == Some((0x200, 9, 0x400)));
+    let other = walk.next(&mut owner);
+    assert!(rt; numbers(other) == Some((0x400, 9, 0x600)));
+    walk.end(&mut owner);
 }

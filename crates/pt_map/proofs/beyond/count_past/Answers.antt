@@ -6,7 +6,7 @@ use Rattle.pt_tile.specs.declared.extent.Extent.{Extent}
 use Rattle.pt_tile.specs.Extents.{tiles, up_to}
 use Rattle.pt_format.specs.Laws.{IsLayout}
 use Rattle.pt_map.specs.Past.{past_root}
-use Rattle.pt_map.proofs.PastRoot.{past_beyond, past_near, reach_small}
+use Rattle.pt_map.proofs.PastRoot.{past_beyond, past_near, reach_is as reach_at}
 use Rattle.pt_map.proofs.beyond.count_past.Given.{Over}
 use Rattle.pt_map.proofs.beyond.count_past.Goals as goal
 use Rattle.pt_map.proofs.beyond.count_past.Goals.{After-count_all, After-from, After-spine_end-reach}
@@ -15,7 +15,7 @@ good : (g : Over) → IsLayout g.F.Format.layout
 good g = g.met.F.Format.lawful_layout
 
 reach_is : (g : Over) (c : After-spine_end-reach g) → c.spine_end-reach.result ≡ pages_of_table g.F.Format.layout c.args.root
-reach_is g c = let small = reach_small (good g) c.requires.extent c.args.levels c.args.root c.requires.start (let l = c.requires.low in omega arith) c.requires.past in let e = c.spine_end-reach.ensures in omega arith
+reach_is g c = reach_at (good g) c.requires.extent c.args.root c.spine_end-reach.ensures c.requires.past
 
 -- Its first page is under the root.
 

@@ -1,19 +1,29 @@
-use Rattle.std.proofs.Common.{◌≡◌, ℕ, ◌+◌, ◌*◌, ◌/◌, ◌≤◌, sym, ◌∙◌, subst, arith}
-use Rattle.pt_model.specs.Layout.{pages_of_entry}
+use Rattle.std.proofs.Common.{◌≡◌, ℕ, false, ◌+◌, ◌*◌, ◌/◌, ◌<◌, ◌≤◌, sym, ◌∙◌, subst, arith}
+use Rattle.pt_model.specs.Layout.{pages_of_entry, pages_of_table}
+use Rattle.pt_view.proofs.Loads.{root_loads}
+use Rattle.pt_map.proofs.PastRoot.{input_few}
 use Rattle.pt_tile.proofs.FirstSizes.{size_small}
 use Rattle.pt_view.specs.Views.{linked_count}
 use Rattle.pt_map.proofs.MapFromRoot.{Begun, Reached, clear_here, fixed_reach, low_size, may_map, owns_root, range_root, to_table}
 use Rattle.pt_map.proofs.MapAnswers.{Done, accounts, answers, left_path, rests_after}
 use Rattle.pt_map.proofs.OneBlock.{block_end}
 use Rattle.pt_map.proofs.request.map_extent.Given.{Over}
-use Rattle.pt_map.proofs.request.map_extent.Goals.{After-INDEX, After-climb, After-descend-level, After-map_at-mapped}
+use Rattle.pt_map.proofs.request.map_extent.Goals.{else-GROWS-via-then-GROWS+else-extent-spine_end, else-GROWS-via-else-GROWS, After-INDEX, After-climb, After-climb-2, After-descend-level, After-map_at-mapped}
 use Rattle.pt_map.proofs.MapFromTable.{linked_walked}
+use Rattle.pt_map.proofs.BeyondAnswers.{accounts_beyond, answers_beyond, may_beyond, rests_beyond}
 use Rattle.pt_map.proofs.request.map_extent.Goals as goal
 
 -- What is known at the root, at the table over all of the extent, and at the end.
 
 begun : (g : Over) (c : After-INDEX g) → Begun g.F.Format.layout g.H.Holder.tells (g.H.Holder.alone c.args.holder.now) (g.H.Holder.view c.args.holder.now) (g.H.Holder.view c.root-root.new.self) c.args.extent c.root-root.result
-begun g c = record { may = c.requires.may; reach = fixed_reach g.met.F.Format.lawful_layout c.requires.may c.requires.fixed c.root-root.ensures.rooted; rooted = c.root-root.ensures.rooted }
+begun g c = record {
+  may = c.requires.may;
+  reach = elim c.else-GROWS.branch [
+    | else-GROWS-via-then-GROWS+else-extent-spine_end w ↦ (let e = w.spine_end.ensures in let within = w.if-extent-spine_end.false in omega arith)
+    | else-GROWS-via-else-GROWS w ↦ fixed_reach g.met.F.Format.lawful_layout c.requires.may (g.met.F.Format.has_constants.grows_is ∙ sym c.GROWS.ensures ∙ w.if-GROWS.false) c.root-root.ensures.rooted
+  ];
+  rooted = c.root-root.ensures.rooted;
+}
 
 -- the level of an extent's first block, as the code makes it
 step_over : (log2 index size width : ℕ) → log2 ≡ size → index ≡ width → log2 / index ≡ size / width
@@ -33,8 +43,8 @@ reached g c b =
       clear = e.clear (owns_root good b) (clear_here good b);
     }
 
-done : (g : Over) (c : After-climb g) → Reached g.F.Format.layout g.H.Holder.tells (g.H.Holder.alone c.args.holder.now) (g.H.Holder.view c.args.holder.now) (g.H.Holder.view c.root-root.new.self) (g.H.Holder.view c.descend-level.new.holder) c.args.extent c.root-root.result c.descend-level.result → Done g.F.Format.layout g.H.Holder.tells (g.H.Holder.alone c.args.holder.now) (g.H.Holder.alone c.descend-level.new.holder) (g.H.Holder.view c.args.holder.now) (g.H.Holder.view c.root-root.new.self) (g.H.Holder.view c.descend-level.new.holder) (g.H.Holder.view c.map_at-mapped.new.holder) (g.H.Holder.view c.climb.new.holder) c.args.extent c.root-root.result c.descend-level.result (linked_count (g.H.Holder.view c.descend-level.new.holder) (g.H.Holder.aside c.descend-level.new.holder)) c.map_at-mapped.result
-done g c r = record { reached = r; ends = c.map_at-mapped.ensures.ends; left = c.climb.ensures.left }
+done : (g : Over) (c : After-climb-2 g) → Reached g.F.Format.layout g.H.Holder.tells (g.H.Holder.alone c.args.holder.now) (g.H.Holder.view c.args.holder.now) (g.H.Holder.view c.root-root.new.self) (g.H.Holder.view c.descend-level.new.holder) c.args.extent c.root-root.result c.descend-level.result → Done g.F.Format.layout g.H.Holder.tells (g.H.Holder.alone c.args.holder.now) (g.H.Holder.alone c.descend-level.new.holder) (g.H.Holder.view c.args.holder.now) (g.H.Holder.view c.root-root.new.self) (g.H.Holder.view c.descend-level.new.holder) (g.H.Holder.view c.map_at-mapped.new.holder) (g.H.Holder.view c.climb-2.new.holder) c.args.extent c.root-root.result c.descend-level.result (linked_count (g.H.Holder.view c.descend-level.new.holder) (g.H.Holder.aside c.descend-level.new.holder)) c.map_at-mapped.result
+done g c r = record { reached = r; ends = c.map_at-mapped.ensures.ends; left = c.climb-2.ensures.left }
 
 pub descend-level-requires-clause-range : goal.descend-level-requires-clause-range
 descend-level-requires-clause-range g c =
@@ -50,23 +60,18 @@ pub map_at-mapped-requires-clause-may : goal.map_at-mapped-requires-clause-may
 map_at-mapped-requires-clause-may g c =
     let at = goal.at.map_at-mapped-requires-clause-may g c in may_map g.met.F.Format.lawful_layout (reached g at.After-descend-level (begun g at.After-INDEX))
 
-pub climb-requires : goal.climb-requires
-climb-requires g c =
-    let at = goal.at.climb-requires g c in
-    left_path g.met.F.Format.lawful_layout (g.H.Holder.alone c.descend-level.new.holder) (linked_count (g.H.Holder.view c.descend-level.new.holder) (g.H.Holder.aside c.descend-level.new.holder)) (g.H.Holder.view c.map_at-mapped.new.holder) (reached g at.After-descend-level (begun g at.After-INDEX)) c.map_at-mapped.result c.map_at-mapped.ensures.ends
-
 pub returns-clause-rests : goal.returns-clause-rests
-returns-clause-rests g c = let at = goal.at.returns-clause-rests g c in rests_after g.met.F.Format.lawful_layout (done g at.After-climb (reached g at.After-descend-level (begun g at.After-INDEX)))
+returns-clause-rests g c = let at = goal.at.returns-clause-rests g c in rests_after g.met.F.Format.lawful_layout (done g at.After-climb-2 (reached g at.After-descend-level (begun g at.After-INDEX)))
 
 pub returns-clause-answered : goal.returns-clause-answered
-returns-clause-answered g c = let at = goal.at.returns-clause-answered g c in answers g.met.F.Format.lawful_layout (done g at.After-climb (reached g at.After-descend-level (begun g at.After-INDEX)))
+returns-clause-answered g c = let at = goal.at.returns-clause-answered g c in answers g.met.F.Format.lawful_layout (done g at.After-climb-2 (reached g at.After-descend-level (begun g at.After-INDEX)))
 
 pub returns-clause-accounted : goal.returns-clause-accounted
 returns-clause-accounted g c = λ a.
     let at = goal.at.returns-clause-accounted g c in
     let r = reached g at.After-descend-level (begun g at.After-INDEX) in
     let a_root = c.root-root.ensures.stays.still_alone a in
-    accounts g.met.F.Format.lawful_layout (done g at.After-climb r) (g.H.Holder.aside c.args.holder.now)
+    accounts g.met.F.Format.lawful_layout (done g at.After-climb-2 r) (g.H.Holder.aside c.args.holder.now)
     (linked_walked (g.H.Holder.view c.args.holder.now) (g.H.Holder.view c.descend-level.new.holder) (g.H.Holder.aside c.args.holder.now) (g.H.Holder.aside c.descend-level.new.holder)
     (to_table g.met.F.Format.lawful_layout r) (c.descend-level.ensures.stays.same_aside ∙ c.root-root.ensures.stays.same_aside))
     a (c.descend-level.ensures.stays.still_alone a_root) (c.descend-level.ensures.owned a_root)
@@ -83,3 +88,35 @@ descend-level-requires-clause-whole g c = λ t.
     let index : c.INDEX.result ≡ f.index = c.INDEX.ensures ∙ sym g.met.F.Format.has_constants.index_is in
     subst (λ (i : ℕ). c.args.extent.end ≤ (c.args.extent.first / pages_of_entry f (c.args.log2 / i) + 1) * pages_of_entry f (c.args.log2 / i)) (sym index)
     (block_end f g.met.F.Format.lawful_layout c.args.extent c.requires.may.inside.extent (c.args.log2 / f.index) c.args.log2 c.requires.size (sym w.0) w.1)
+
+-- The extent ends past the pages under the root.
+
+pub map_beyond-mapped-requires : goal.map_beyond-mapped-requires
+map_beyond-mapped-requires g c =
+    let e = c.spine_end.ensures in let more = c.if-extent-spine_end.true in
+    let input = c.requires.may.inside.extent.in_input in let few = input_few g.met.F.Format.lawful_layout in
+    may_beyond g.met.F.Format.lawful_layout c.requires.may (omega arith) c.root-root.ensures.rooted
+
+module _ (g : Over) (c : After-climb g) where
+  past : pages_of_table g.F.Format.layout c.root-root.result < c.args.extent.end
+  past =
+      let e = c.spine_end.ensures in let more = c.if-extent-spine_end.true in
+      let input = c.requires.may.inside.extent.in_input in let few = input_few g.met.F.Format.lawful_layout in omega arith
+
+pub returns-then-extent-spine_end-clause-rests : goal.returns-then-extent-spine_end-clause-rests
+returns-then-extent-spine_end-clause-rests g c =
+    let at = (goal.at.returns-then-extent-spine_end-clause-rests g c).After-climb in
+    rests_beyond g.met.F.Format.lawful_layout c.requires.may (past g at) c.root-root.ensures.rooted _ _ _ _ _ c.map_beyond-mapped.ensures.ends c.climb.ensures.left
+
+pub returns-then-extent-spine_end-clause-answered : goal.returns-then-extent-spine_end-clause-answered
+returns-then-extent-spine_end-clause-answered g c =
+    let at = (goal.at.returns-then-extent-spine_end-clause-answered g c).After-climb in
+    answers_beyond g.met.F.Format.lawful_layout c.requires.may (past g at) c.root-root.ensures.rooted _ _ _ _ _ c.map_beyond-mapped.ensures.ends c.climb.ensures.left
+
+pub returns-then-extent-spine_end-clause-accounted : goal.returns-then-extent-spine_end-clause-accounted
+returns-then-extent-spine_end-clause-accounted g c = λ a.
+    let at = (goal.at.returns-then-extent-spine_end-clause-accounted g c).After-climb in
+    let rooted = c.root-root.ensures.rooted in
+    accounts_beyond g.met.F.Format.lawful_layout c.requires.may (past g at) rooted _ _ _ _ _ c.map_beyond-mapped.ensures.ends c.climb.ensures.left (g.H.Holder.aside c.args.holder.now)
+    (linked_walked (g.H.Holder.view c.args.holder.now) (g.H.Holder.view c.root-root.new.self) (g.H.Holder.aside c.args.holder.now) (g.H.Holder.aside c.root-root.new.self) (root_loads rooted) c.root-root.ensures.stays.same_aside)
+    a (c.root-root.ensures.stays.still_alone a)

@@ -1,4 +1,3 @@
-use Rattle.std.proofs.Common.{arith}
 use Rattle.pt_view.proofs.Stays.{stays_here, stays_on}
 use Rattle.pt_sweep.proofs.RootRaised.{may_raise, raises_all, raises_none, raises_on}
 use Rattle.pt_sweep.proofs.root.raise.Goals as goal

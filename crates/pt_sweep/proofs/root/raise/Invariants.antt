@@ -1,4 +1,4 @@
-use Rattle.std.proofs.Common.{◌-◌, ℕ}
+use Rattle.std.proofs.Common.{◌-◌}
 use Rattle.pt_view.specs.Views.{Stays}
 use Rattle.pt_sweep.proofs.RootRaised.{RaisesTo}
 use Rattle.pt_sweep.proofs.root.raise.Given as goal

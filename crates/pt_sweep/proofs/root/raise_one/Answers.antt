@@ -1,4 +1,4 @@
-use Rattle.std.proofs.Common.{◌≡◌, ◌<◌, ◌∙◌, arith, refl}
+use Rattle.std.proofs.Common.{◌∙◌, arith, refl}
 use Rattle.pt_format.specs.Laws.{IsLayout}
 use Rattle.pt_sweep.proofs.RootRaised.{left_after, outgrown, raised, ready_after}
 use Rattle.pt_sweep.proofs.root.raise_one.Goals as goal

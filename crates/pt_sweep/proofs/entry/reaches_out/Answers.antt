@@ -1,7 +1,7 @@
 use Rattle.std.proofs.Common.{◌^◌, ◌≤◌, inl, inr, arith}
 use Rattle.std.proofs.lemmas.Bool.{cases_lt}
 use Rattle.std.proofs.Math.Pow.{pow_mono}
-use Rattle.pt_sweep.proofs.request.reaches_out.Goals as goal
+use Rattle.pt_sweep.proofs.entry.reaches_out.Goals as goal
 
 pub overflow_shl-result : goal.overflow_shl-result
 overflow_shl-result c = elim (cases_lt c.args.block.log2 64) [
