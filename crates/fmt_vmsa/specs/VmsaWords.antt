@@ -1,6 +1,6 @@
 -- The words of VMSAv8-64 tables, by granule. A granule is named by the log2 of its bytes, and tables count from 0, the lowest,
 -- which is the manual's level 3. A descriptor has its attributes below the address, and Contiguous in bit 52.
--- Source: Arm Architecture Reference Manual for A-profile architecture (DDI 0487), chapter D8, sections "Translation table
+-- Source: Arm Architecture Reference Manual for A-profile architecture (DDI 0487), sections "Translation table
 -- descriptor formats" and "The Contiguous bit", with its table of the sizes of groups.
 use Rattle.std.specs.Prelude.{◌≡◌, ℕ, ◌+◌, ◌-◌, ◌*◌, ◌/◌, ◌%◌, ◌^◌, ◌<◌, nat_lt, ◌==◌, ◌&&◌, not, Bool, false, [], ◌∷◌, List, IsTrue, if◌then◌else◌}
 use Rattle.pt_model.specs.declared.block.Prot.{Prot}

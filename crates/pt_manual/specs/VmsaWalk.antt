@@ -1,5 +1,5 @@
 -- The walk of VMSAv8-64 tables, of granules of 4, 16 and 64 KiB. A granule is named by the log2 of its bytes.
--- Source: Arm Architecture Reference Manual for A-profile architecture (DDI 0487), chapter D8 "The AArch64 Virtual Memory
+-- Source: Arm Architecture Reference Manual for A-profile architecture (DDI 0487), chapter "The AArch64 Virtual Memory
 -- System Architecture", sections "Translation process" with its tables of the bits that each granule resolves at each level,
 -- "Translation table descriptor formats", and "Memory access control" and "Memory region attributes" for their fields. Bits
 -- that the profile leaves at 0 are reserved here.

@@ -1,11 +1,10 @@
 -- What a map past the root answers, from what it did at the root.
-use Rattle.std.proofs.Common.{◌≡◌, ◌⊎◌, ◌↔◌, ℕ, Bool, ◌+◌, ◌-◌, ◌*◌, ◌%◌, ◌^◌, ◌<◌, ◌≤◌, List, [], ◌∷◌, ◌++◌, true, false, inl, inr, refl, ap, sym, subst, ◌∙◌, arith, append_assoc, length-append}
+use Rattle.std.proofs.Common.{◌≡◌, ◌⊎◌, ◌↔◌, ℕ, Bool, ◌+◌, ◌-◌, ◌%◌, ◌<◌, ◌≤◌, List, [], ◌∷◌, ◌++◌, true, false, inl, inr, refl, ap, sym, subst, ◌∙◌, arith, append_assoc, length-append}
 use Rattle.std.specs.Prelude.{IsTrue, ◌&&◌, Some, None, Ok, Err, Result, length, map, max, min, filter, not, nat_le, nat_lt, option_map}
 use Rattle.std.proofs.lemmas.Bool.{and_from, and_parts, cases_Bool, cases_lt, false_from_ne_true, false≢true, le-leb, leb-true, lt-ltb, ltb-false, ltb-true, not-true, not_from_false, or_cases, or_left, or_right}
 use Rattle.std.proofs.lemmas.List.Elements.{All-contains}
 use Rattle.std.proofs.lemmas.List.Filters.{length-filter_both}
 use Rattle.std.proofs.lemmas.List.FromFn.{length-map-range_with_len, length-range_with_len}
-use Rattle.std.proofs.lemmas.Nat.{mul-le, pow_below, pow_pos}
 use Rattle.pt_model.specs.declared.block.Block.{Block}
 use Rattle.pt_model.specs.declared.position.Position.{Position}
 use Rattle.pt_model.specs.Layout.{Layout, pages_of_table}
@@ -30,29 +29,29 @@ use Rattle.pt_view.specs.declared.view.Node.{Node}
 use Rattle.pt_view.specs.declared.view.Piece.{Piece}
 use Rattle.pt_view.specs.Calls.{Rooted}
 use Rattle.pt_view.specs.Pieces.{add_pieces, all_pieces}
-use Rattle.pt_view.specs.Views.{Aside, IsAtRest, SameRange, book_of, linked_count}
+use Rattle.pt_view.specs.Views.{Aside, IsAtRest, book_of, linked_count}
 use Rattle.pt_view.proofs.Loads.{root_loads}
-use Rattle.pt_view.proofs.Stays.{book_on, range_on}
+use Rattle.pt_view.proofs.Stays.{range_on}
 use Rattle.pt_walk.specs.Walks.{IsFree, OwnsAll, Rests}
 use Rattle.pt_walk.proofs.Books.{owns_all}
 use Rattle.pt_walk.proofs.Descent.{owns_on}
 use Rattle.pt_walk.proofs.Ranges.{free_on, lowest_on}
 use Rattle.pt_map.specs.declared.refused.MapRefused.{MapRefused}
 use Rattle.pt_map.specs.declared.refused.MapRefused.TheVariants as refused
-use Rattle.pt_map.specs.Absent.{Counted, IsMissing, is_shown, shows}
-use Rattle.pt_map.specs.Answers.{Accounts, Answers, FindsAbsent, FindsEach, IsMapped, IsRefused, IsShortOf, IsWanting, KeepsPurse, LinksAll, WantsFrames, book_with, lacking, refusal_of, unknown}
+use Rattle.pt_map.specs.Absent.{IsMissing, is_shown, shows}
+use Rattle.pt_map.specs.Answers.{Accounts, Answers, FindsAbsent, IsMapped, IsRefused, IsShortOf, IsWanting, KeepsPurse, LinksAll, WantsFrames, book_with, lacking, refusal_of, unknown}
 use Rattle.pt_map.specs.Beyond.{EndsBeyond, HasCauseBeyond, LacksBeyond, MappedBeyond, MayMapBeyond, near_root}
 use Rattle.pt_map.specs.Past.{past_root, reaches_past}
 use Rattle.pt_map.specs.Replaced.{is_replaced, replaced}
 use Rattle.pt_map.specs.Requests.{MayMap, occupied}
 use Rattle.pt_map.specs.Stands.{IsOwnTable}
 use Rattle.pt_map.proofs.AbsentCounted.{shown_left, shown_right}
-use Rattle.pt_map.proofs.BeyondMapped.{spine_past, top_high}
+use Rattle.pt_map.proofs.BeyondMapped.{spine_past}
 use Rattle.pt_map.proofs.BlocksAdded.{Apart, adds_pieces, in_order_from}
 use Rattle.pt_map.proofs.FirstMapped.{first_mapped, free_apart, none_mapped}
-use Rattle.pt_map.proofs.LackingTables.{is_unknown, lacking_off, lacking_once, table_linked, tables_more}
+use Rattle.pt_map.proofs.LackingTables.{is_unknown, lacking_once, table_linked, tables_more}
 use Rattle.pt_map.proofs.NearRoot.{spine_back, spine_is}
-use Rattle.pt_map.proofs.NeededTables.{index_some, needs_sorted}
+use Rattle.pt_map.proofs.NeededTables.{needs_sorted}
 use Rattle.pt_map.proofs.PastRoot.{low_spine, past_top}
 use Rattle.pt_map.proofs.MapResults.{Standing, rested}
 use Rattle.pt_map.proofs.MapResults as results
@@ -151,21 +150,21 @@ module _ {f : Layout} (good : IsLayout f) {tells alone : Type 0} {v u : View} {x
     lacks_is p needed no_table no_spine =
         among_passes (λ q. not (is_linked v.levels (book_of v blocks) q)) (all_needed f v.levels (tiles f x)) p needed
         (not_from_false (is_linked v.levels (book_of v blocks) p) (false_from_ne_true (is_linked v.levels (book_of v blocks) p) (λ e.
-            elim (or_cases (is_spine v.levels p && nat_le p.level v.top) _ e) [
-              | inl spine ↦ false≢true (sym no_spine ∙ spine)
-              | inr table ↦ no_table (any_among v.tables p table)
-            ])))
+        elim (or_cases (is_spine v.levels p && nat_le p.level v.top) _ e) [
+          | inl spine ↦ false≢true (sym no_spine ∙ spine)
+          | inr table ↦ no_table (any_among v.tables p table)
+        ])))
 
     far_lacks : (p : Position) → IsAmong far p → IsAmong (lacking f v blocks x) p
     far_lacks p h =
         let n = far_needed p h in
         lacks_is p n.0 (λ there. let over = rooted.over_tables p there in let beyond = n.1 in omega arith)
         (false_from_ne_true (is_spine v.levels p && nat_le p.level v.top) (λ e.
-            let b = and_parts (is_spine v.levels p) (nat_le p.level v.top) e in
-            let s = spine_back v.levels p b.0 in
-            let wide = table_mono f p.level root (let l = leb-true p.level v.top b.1 in let r = rooted.reaches in omega arith) in
-            let base : p.base ≡ 0 = ap (λ (q : Position). q.base) s.1 in
-            let beyond = n.1 in (let w : ⊥ = omega arith in w)))
+        let b = and_parts (is_spine v.levels p) (nat_le p.level v.top) e in
+        let s = spine_back v.levels p b.0 in
+        let wide = table_mono f p.level root (let l = leb-true p.level v.top b.1 in let r = rooted.reaches in omega arith) in
+        let base : p.base ≡ 0 = ap (λ (q : Position). q.base) s.1 in
+        let beyond = n.1 in (let w : ⊥ = omega arith in w)))
 
     far_unknown : (p : Position) → IsAmong far p → IsAmong (unknown f v blocks x) p
     far_unknown p h = is_unknown good v blocks may.inside.extent may.levels few p (far_lacks p h) (λ k. let over = rooted.over_known p k in let beyond = (far_needed p h).1 in omega arith)
@@ -251,12 +250,12 @@ module _ {f : Layout} (good : IsLayout f) {tells alone : Type 0} {v u : View} {x
                 false≢true (sym unlinked ∙ or_left (is_spine v.levels p && nat_le p.level v.top) _ (and_from (is_spine v.levels p) _ spine (le-leb p.level v.top (omega arith)))))
             | inr off ↦ elim (all p (subst (λ (ps : List Position). IsAmong ps p) (sym near_same) (among_passes (λ q. not (reaches_past f root q) && not (is_spine v.levels q)) (all_needed f v.levels (tiles f x)) p needed
                 (and_from (not (reaches_past f root p)) _ (ap not close) (ap not off))))) [
-              | inl here ↦ here
-              | inr own ↦ absurd (elim own [
-                | inl there ↦ false≢true (sym unlinked ∙ table_linked good v blocks may.inside.extent may.levels few p (subst (λ (ps : List Position). IsAmong ps p) rooted.book.tables there))
-                | inr spine ↦ false≢true (sym off ∙ subst (λ (l : ℕ). is_spine l p ≡ true) rooted.range.levels spine)
-              ])
-            ]
+                  | inl here ↦ here
+                  | inr own ↦ absurd (elim own [
+                    | inl there ↦ false≢true (sym unlinked ∙ table_linked good v blocks may.inside.extent may.levels few p (subst (λ (ps : List Position). IsAmong ps p) rooted.book.tables there))
+                    | inr spine ↦ false≢true (sym off ∙ subst (λ (l : ℕ). is_spine l p ≡ true) rooted.range.levels spine)
+                  ])
+                ]
           ]
 
   -- The extent was mapped.

@@ -1,22 +1,21 @@
 -- A map past the root from its look to its end: what was drawn, unlinked, raised and written.
-use Rattle.std.proofs.Common.{◌≡◌, ◌⊎◌, ℕ, Bool, ◌+◌, ◌-◌, ◌*◌, ◌^◌, ◌<◌, ◌≤◌, ◌↔◌, List, [], ◌∷◌, ◌++◌, length, true, false, inl, inr, refl, ap, sym, subst, ◌∙◌, arith, append_assoc, length-append}
-use Rattle.std.specs.Prelude.{IsTrue, ◌&&◌, Some, None, Ok, Err, ◌==◌, filter, map, max, min, not, nat_le, nat_lt}
-use Rattle.std.proofs.lemmas.Bool.{and_from, cases_Bool, cases_lt, false≢true, lt-ltb, ltb-true, not-true}
+use Rattle.std.proofs.Common.{◌≡◌, ◌⊎◌, ℕ, Bool, ◌+◌, ◌-◌, ◌*◌, ◌<◌, ◌≤◌, ◌↔◌, List, ◌++◌, length, false, inl, inr, refl, ap, sym, subst, ◌∙◌, arith, append_assoc, length-append}
+use Rattle.std.specs.Prelude.{IsTrue, ◌&&◌, Some, filter, map, max, min, not}
+use Rattle.std.proofs.lemmas.Bool.{and_from, cases_Bool, lt-ltb, not-true}
 use Rattle.std.proofs.lemmas.List.Filters.{length-filter_both}
 use Rattle.std.proofs.lemmas.List.FromFn.{length-map-range_with_len}
-use Rattle.std.proofs.lemmas.Nat.{mul-le, pow_below, pow_pos}
-use Rattle.pt_model.specs.declared.block.Block.{Block}
+use Rattle.std.proofs.lemmas.Nat.{mul-le, pow_below}
 use Rattle.pt_model.specs.declared.position.Position.{Position}
-use Rattle.pt_model.specs.Layout.{Layout, input_pages, pages_of_table}
+use Rattle.pt_model.specs.Layout.{Layout, pages_of_table}
 use Rattle.pt_model.specs.Pages.{byte_at}
 use Rattle.pt_model.specs.Sets.{IsAmong, IsSorted, places}
 use Rattle.pt_model.specs.Tables.{all_needed, end_of_table, is_spine, least_top, levels_between, position_over, spine_position, starting_top}
-use Rattle.pt_model.proofs.Positions.{Once, among_append, among_filtered, among_left, among_passes, among_right, length_within, sorted_filter, sorted_levels, sorted_once}
+use Rattle.pt_model.proofs.Positions.{among_filtered, among_left, among_passes, among_right, length_within, sorted_filter, sorted_levels, sorted_once}
 use Rattle.pt_model.proofs.Quotients.{root_over}
 use Rattle.pt_model.proofs.Tops.{above_top, reaches_top, table_mono, top_below, top_low}
 use Rattle.pt_format.specs.Laws.{IsLayout}
 use Rattle.pt_tile.specs.declared.extent.Extent.{Extent}
-use Rattle.pt_tile.specs.Extents.{IsExtent, first_size, tables_below, tables_of, tiles}
+use Rattle.pt_tile.specs.Extents.{tables_below, tiles}
 use Rattle.pt_tile.proofs.FirstSizes.{extent_tiling}
 use Rattle.pt_tile.proofs.Levels.{in_levels}
 use Rattle.pt_view.specs.declared.view.View.{View}
@@ -25,23 +24,22 @@ use Rattle.pt_view.specs.declared.view.Change.{Change}
 use Rattle.pt_view.specs.declared.view.Change.TheVariants.{Written}
 use Rattle.pt_view.specs.declared.view.Piece.{Piece}
 use Rattle.pt_view.specs.declared.view.Node.{Node}
-use Rattle.pt_view.specs.Calls.{IsRootAt, lowest}
+use Rattle.pt_view.specs.Calls.{lowest}
 use Rattle.pt_view.specs.Lists.{IsIn}
 use Rattle.pt_view.specs.Loads.{AddsAbsences, ByLoads}
 use Rattle.pt_view.specs.Pieces.{IsOneOf, add_pieces, all_pieces}
 use Rattle.pt_view.specs.Views.{Aside, SameBook, SameRange, linked_count}
 use Rattle.pt_view.proofs.Loads.{absences_on}
 use Rattle.pt_view.proofs.Stays.{book_on, range_on}
-use Rattle.pt_walk.specs.Walks.{IsFree, IsLowest, IsWayDown, OwnsAll}
+use Rattle.pt_walk.specs.Walks.{IsFree, IsLowest, IsWayDown}
 use Rattle.pt_walk.proofs.Descent.{owns_on}
-use Rattle.pt_sweep.specs.Sweeps.{IsBookTable}
 use Rattle.pt_sweep.specs.Raises.{AtRoot, MayRaise, Raises}
 use Rattle.pt_map.specs.declared.refused.MapRefused.{MapRefused}
 use Rattle.pt_map.specs.declared.refused.MapRefused.TheVariants as refused
-use Rattle.pt_map.specs.Absent.{Counted, IsMissing, is_shown}
+use Rattle.pt_map.specs.Absent.{Counted, is_shown}
 use Rattle.pt_map.specs.Answers.{FindsEach}
-use Rattle.pt_map.specs.Beyond.{HasCauseBeyond, LacksBeyond, MappedBeyond, MayMakeWayNear, MayMapBeyond, RefusedBeyond, near_root}
-use Rattle.pt_map.specs.Filled.{Fills, HasRoom, MayFill, MayStore, top_with}
+use Rattle.pt_map.specs.Beyond.{MappedBeyond, MayMakeWayNear, MayMapBeyond, RefusedBeyond, near_root}
+use Rattle.pt_map.specs.Filled.{Fills, HasRoom, MayFill, MayStore}
 use Rattle.pt_map.specs.Past.{past_root, reaches_past}
 use Rattle.pt_map.specs.Replaced.{HasNoneReplaced, UnlinksReplaced, is_replaced, replaced}
 use Rattle.pt_map.specs.Requests.{Gathered, HasFrames, IsLackOf, LacksFrames}
@@ -49,7 +47,7 @@ use Rattle.pt_map.specs.Stands.{StandsAt}
 use Rattle.pt_map.proofs.AbsentCounted.{shown_left}
 use Rattle.pt_map.proofs.MapFromTable.{linked_walked, no_piece_kept, refused_walked}
 use Rattle.pt_map.proofs.NearRoot.{low, spine_is}
-use Rattle.pt_map.proofs.NeededTables.{has_below, index_some, needed_same, needs_sorted, space_in_table}
+use Rattle.pt_map.proofs.NeededTables.{has_below, index_some, needed_same, space_in_table}
 use Rattle.pt_map.proofs.PastRoot.{past_top, root_low, small, spine_above}
 use Rattle.pt_map.proofs.ReplacedTables.{needed_stays, replaced_none, spine_stays, two_parts}
 use Rattle.pt_map.proofs.TopsOver.{top_of_tiling}
@@ -371,9 +369,9 @@ module _ {f : Layout} (good : IsLayout f) {tells : Type 0} {v c g : View} {x : E
                         (among_passes (reaches_past f root) (all_needed f v.levels (tiles f x)) p needed far) (ap not none)))
                     | inr close ↦ elim (found.others (let h = has.frames in let s = walked.range.frames in let a = all_is in let e = near_is in omega arith) p
                         (among_passes (λ q. not (reaches_past f root q) && not (is_spine v.levels q)) (all_needed f v.levels (tiles f x)) p needed (and_from (not (reaches_past f root p)) _ (ap not close) (ap not none)))) [
-                      | inl a ↦ inr (among_left p found.absent (off good may) a)
-                      | inr k ↦ inl (raises.known p (made.known p ((gathered.keeps.known p).1 k) (needed_stays good may.extent p b.0)))
-                    ]
+                          | inl a ↦ inr (among_left p found.absent (off good may) a)
+                          | inr k ↦ inl (raises.known p (made.known p ((gathered.keeps.known p).1 k) (needed_stays good may.extent p b.0)))
+                        ]
                   ]
             ]
 

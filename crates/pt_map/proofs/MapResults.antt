@@ -27,7 +27,7 @@ use Rattle.pt_tile.specs.declared.extent.Extent.{Extent}
 use Rattle.pt_map.specs.declared.refused.MapRefused.{MapRefused}
 use Rattle.pt_map.specs.Absent.{Counted, IsMissing, is_shown}
 use Rattle.pt_map.specs.Answers.{AddsToHistory, FindsAbsent, FindsEach, IsMapped, IsRefused, IsShortOf, IsWanting, KeepsPurse, WantsFrames, book_with, lacking, refusal_of, unknown, LinksAll}
-use Rattle.pt_map.specs.Requests.{LacksFrames, MappedBelow, HasCause, RefusedBelow, occupied}
+use Rattle.pt_map.specs.Requests.{LacksFrames, MappedBelow, HasCause, occupied}
 use Rattle.pt_map.proofs.AbsentCounted.{own_on, shown_right}
 use Rattle.pt_map.proofs.BlocksAdded.{Apart, adds_pieces, in_order_from}
 use Rattle.pt_map.proofs.FirstMapped.{first_mapped, free_apart, none_mapped}

@@ -1,26 +1,24 @@
 -- What of an extent lies under the root, which is too low for all of it: its needed tables, its free pages and the tables that
 -- its blocks take the place of.
-use Rattle.std.proofs.Common.{◌≡◌, ℕ, Bool, ◌+◌, ◌-◌, ◌*◌, ◌^◌, ◌<◌, ◌≤◌, ◌↔◌, List, ◌∷◌, [], ◌++◌, length, true, false, inl, inr, refl, ap, sym, subst, ◌∙◌, arith}
-use Rattle.std.specs.Prelude.{IsTrue, Some, ◌==◌, ◌&&◌, ◌||◌, filter, map, not, nat_le, nat_lt}
-use Rattle.std.proofs.lemmas.Bool.{and_from, and_parts, cases_Bool, cases_lt, eq-eqb, eqb-true, false_from_ne_true, false≢true, le-leb, leb-true, lt-ltb, not-true, or_left}
+use Rattle.std.proofs.Common.{◌≡◌, ℕ, Bool, ◌+◌, ◌-◌, ◌*◌, ◌^◌, ◌<◌, ◌≤◌, ◌↔◌, List, ◌∷◌, [], true, false, inl, inr, refl, ap, sym, subst, ◌∙◌, arith}
+use Rattle.std.specs.Prelude.{Some, ◌==◌, ◌&&◌, ◌||◌, filter, not, nat_le}
+use Rattle.std.proofs.lemmas.Bool.{and_from, and_parts, cases_Bool, cases_lt, eq-eqb, eqb-true, false_from_ne_true, false≢true, le-leb, leb-true, not-true, or_left}
 use Rattle.std.proofs.Math.Bool.{or-false}
 use Rattle.std.proofs.lemmas.Nat.{pow_pos}
-use Rattle.std.specs.List.{list_any}
 use Rattle.pt_model.specs.declared.block.Block.{Block}
 use Rattle.pt_model.specs.declared.position.Position.{Position}
-use Rattle.pt_model.specs.Layout.{Layout, end_of, input_pages, pages_of_table}
+use Rattle.pt_model.specs.Layout.{Layout, pages_of_table}
 use Rattle.pt_model.specs.Sets.{IsAmong}
-use Rattle.pt_model.specs.Tables.{all_needed, end_of_table, is_spine, levels_between, position_over, spine_position, starting_top}
+use Rattle.pt_model.specs.Tables.{all_needed, end_of_table, is_spine, position_over, spine_position, starting_top}
 use Rattle.pt_model.proofs.Positions.{among_filtered, among_here, among_more, among_passes, filter_in, filter_out, same_position}
 use Rattle.pt_model.proofs.Quotients.{root_over}
 use Rattle.pt_model.proofs.Tops.{table_mono}
 use Rattle.pt_format.specs.Laws.{IsLayout}
 use Rattle.pt_tile.specs.declared.extent.Extent.{Extent}
-use Rattle.pt_tile.specs.Extents.{IsExtent, IsOneBlock, from, tables_below, tables_of, tiles}
+use Rattle.pt_tile.specs.Extents.{IsExtent, from, tables_below, tables_of, tiles}
 use Rattle.pt_tile.proofs.FirstParts.{cut_step, tile_of}
 use Rattle.pt_tile.proofs.Levels.{in_levels}
 use Rattle.pt_view.specs.declared.view.View.{View}
-use Rattle.pt_view.specs.Loads.{ByLoads}
 use Rattle.pt_view.specs.Calls.{lowest}
 use Rattle.pt_walk.proofs.Ranges.{clear_root}
 use Rattle.pt_walk.specs.Walks.{HasNowhere, IsFree, IsLowest}
@@ -32,15 +30,15 @@ use Rattle.pt_map.specs.declared.survey.Found.TheVariants.{Mapped, Absent}
 use Rattle.pt_map.specs.Absent.{Counted, Finds, MaySurvey, Surveyed}
 use Rattle.pt_map.specs.Filled.{IsTableIn}
 use Rattle.pt_map.specs.Beyond.{FindsNear, MayMapBeyond, SurveyedNear, near_root}
-use Rattle.pt_map.specs.Past.{past_root, reaches_past}
+use Rattle.pt_map.specs.Past.{reaches_past}
 use Rattle.pt_map.specs.Replaced.{MayMakeWay, UnlinksReplaced, is_replaced}
 use Rattle.pt_sweep.specs.Empties.{Unlinks}
 use Rattle.pt_map.proofs.WayMade.{none_unlinked}
 use Rattle.pt_map.specs.Stands.{IsExtentAt}
 use Rattle.pt_map.proofs.AbsentCounted.{nothing_counted}
 use Rattle.pt_map.proofs.ReplacedTables.{none_replaced, replaced_append}
-use Rattle.pt_map.proofs.NeededTables.{below_has, has_below, needed_same, needs_page}
-use Rattle.pt_map.proofs.PastRoot.{far_block, is_not_past, low_spine, near, near_all, near_part, not_past, parted, reach, small, spine_alone, under_root}
+use Rattle.pt_map.proofs.NeededTables.{below_has, has_below, needed_same}
+use Rattle.pt_map.proofs.PastRoot.{far_block, near, near_all, near_part, not_past, parted, small, spine_alone, under_root}
 
 pub spine_is : (levels level : ℕ) → levels - 1 ≤ level → is_spine levels (spine_position level) ≡ true
 spine_is levels level low = and_from (nat_le (levels - 1) level) (0 == 0) (le-leb (levels - 1) level low) (eq-eqb 0 0 refl)

@@ -93,12 +93,7 @@ fn survey_near<F: Format, H: Holder<F>>(
 }
 
 /// Makes way for the blocks of an extent, of which no page is mapped, where `tables` stand under the root.
-fn make_way_near<F: Format, H: Holder<F>>(
-    holder: &mut H,
-    root: u32,
-    extent: Extent,
-    tables: bool,
-)
+fn make_way_near<F: Format, H: Holder<F>>(holder: &mut H, root: u32, extent: Extent, tables: bool)
     requires may { MayMakeWayNear F.layout (H.view holder.old) extent root tables }
     ensures stays { Stays H.space H.aside H.alone holder.old holder.new }
     ensures unlinks { UnlinksReplaced F.layout H.tells (H.alone holder.old) (tiles F.layout extent) (H.view holder.old) (H.view holder.new) }

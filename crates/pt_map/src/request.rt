@@ -19,7 +19,7 @@ use pt_format::{Format, Prot, Span, byte_of, is_whole, range_of};
 use pt_sweep::draw;
 use pt_tile::Extent;
 use pt_view::Holder;
-use pt_walk::{spine_end, Under, climb, descend, first_at, first_below};
+use pt_walk::{Under, climb, descend, first_at, first_below, spine_end};
 
 /// The extent that a request is, where its range may be mapped in a span by its numbers alone.
 fn extent_in<F: Format>(

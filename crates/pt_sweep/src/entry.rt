@@ -86,7 +86,8 @@ fn unmap_entry<F: Format, H: Holder<F>>(holder: &mut H, range: Span, lowest: u32
     requires lowest { lowest ≤ 1 }
     requires one { range.first + range.count ≤ (range.first / pages_of_entry F.layout lowest + 1) * pages_of_entry F.layout lowest }
     ensures stays { Stays H.space H.aside H.alone holder.old holder.new }
-    ensures unmaps { UnmapsEntry F.layout H.tells (H.alone holder.old) range.first range.count (H.view holder.old) (H.view holder.new) result }
+    ensures unmaps { UnmapsEntry F.layout H.tells (H.alone holder.old) range.first range.count
+        (H.view holder.old) (H.view holder.new) result }
 {
     let end = range.first + range.count;
     let root = holder.root();
@@ -109,7 +110,8 @@ pub(crate) fn unmap_one<F: Format, H: Holder<F>>(holder: &mut H, range: Span) ->
     requires levels { F.layout.start ≤ (H.view holder.old).levels }
     requires lawful { IsLawfulAtRest F.layout (H.view holder.old) }
     ensures stays { Stays H.space H.aside H.alone holder.old holder.new }
-    ensures unmaps { UnmapsEntry F.layout H.tells (H.alone holder.old) range.first range.count (H.view holder.old) (H.view holder.new) result }
+    ensures unmaps { UnmapsEntry F.layout H.tells (H.alone holder.old) range.first range.count
+        (H.view holder.old) (H.view holder.new) result }
 {
     if range.count == 1 {
         return unmap_entry::<F, H>(holder, range, 0);

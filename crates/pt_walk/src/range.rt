@@ -135,18 +135,17 @@ pub fn first_below<F: Format, H: Holder<F>>(
         }
         at = next;
     }
-    if tables { Under::Tables } else { Under::Nothing }
+    if tables {
+        Under::Tables
+    } else {
+        Under::Nothing
+    }
 }
 
 /// The same, of a range under one entry of that table.
 #[cycle(first_below)]
 #[inline(always)]
-pub fn first_at<F: Format, H: Holder<F>>(
-    holder: &mut H,
-    level: u32,
-    first: u64,
-    end: u64,
-) -> Under
+pub fn first_at<F: Format, H: Holder<F>>(holder: &mut H, level: u32, first: u64, end: u64) -> Under
     requires range { IsOverRange F.layout (H.view holder.old) first end level }
     requires one { end ≤ (first / pages_of_entry F.layout level + 1) * pages_of_entry F.layout level }
     requires owns { OwnsAll F.layout (H.view holder.old) }

@@ -1,10 +1,9 @@
-use Rattle.std.proofs.Common.{◌≡◌, ℕ, ◌<◌, ◌≤◌, ap, sym, ◌∙◌, subst, arith}
+use Rattle.std.proofs.Common.{◌≡◌, ◌<◌, ap, sym, ◌∙◌, subst, arith}
 use Rattle.std.specs.Prelude.{min}
 use Rattle.pt_model.specs.Layout.{Layout, pages_of_table}
 use Rattle.pt_format.specs.Laws.{IsLayout}
 use Rattle.pt_tile.specs.declared.extent.Extent.{Extent}
 use Rattle.pt_tile.specs.Extents.{tiles, up_to}
-use Rattle.pt_view.specs.declared.view.View.{View}
 use Rattle.pt_map.specs.Replaced.{MayMakeWay, UnlinksReplaced, is_replaced}
 use Rattle.pt_map.proofs.NearRoot.{made_far, made_near, may_make, near_replaced}
 use Rattle.pt_map.proofs.PastRoot.{reach_is}
@@ -49,4 +48,3 @@ pub returns-else-extent-reach-clause-unlinks : goal.returns-else-extent-reach-cl
 returns-else-extent-reach-clause-unlinks g c =
     let e = reach_is (good g) c.requires.may.may.extent c.args.root c.spine_end-reach.ensures c.requires.may.may.past in let b = c.if-extent-reach.false in
     made_far (good g) c.requires.may.may (omega arith)
-

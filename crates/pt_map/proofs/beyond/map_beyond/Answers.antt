@@ -1,4 +1,4 @@
-use Rattle.std.proofs.Common.{◌≡◌, ℕ, ◌+◌, ◌-◌, ◌^◌, ◌<◌, ◌≤◌, length, arith, ◌∙◌, ap, sym}
+use Rattle.std.proofs.Common.{◌≡◌, ℕ, ◌+◌, ◌-◌, ◌^◌, ◌≤◌, length, arith, ◌∙◌, ap}
 use Rattle.std.specs.Prelude.{min}
 use Rattle.std.proofs.lemmas.Result.{err_from_is_err_and}
 use Rattle.pt_format.specs.Laws.{IsLayout}
@@ -8,7 +8,6 @@ use Rattle.pt_map.specs.Beyond.{FindsNear}
 use Rattle.pt_map.specs.declared.survey.Found.TheVariants.{Absent}
 use Rattle.pt_map.specs.Past.{past_root}
 use Rattle.pt_map.proofs.NeededTables.{space_in_table}
-use Rattle.pt_map.proofs.BeyondAnswers.{may_beyond}
 use Rattle.pt_map.proofs.BeyondMapped.{lack_beyond, mapped_beyond, may_fill, may_make_way, may_raise, occupied_beyond}
 use Rattle.pt_map.proofs.beyond.map_beyond.Given.{Over}
 use Rattle.pt_map.proofs.beyond.map_beyond.Goals as goal

@@ -1,10 +1,9 @@
-use Rattle.std.proofs.Common.{◌≡◌, ℕ, ◌<◌, ◌≤◌, ap, sym, ◌∙◌, subst, arith}
+use Rattle.std.proofs.Common.{◌≡◌, ◌<◌, ap, sym, ◌∙◌, subst, arith}
 use Rattle.std.specs.Prelude.{min}
 use Rattle.pt_model.specs.Layout.{Layout, pages_of_table}
 use Rattle.pt_format.specs.Laws.{IsLayout}
 use Rattle.pt_tile.specs.declared.extent.Extent.{Extent}
 use Rattle.pt_tile.specs.Extents.{up_to}
-use Rattle.pt_view.specs.declared.view.View.{View}
 use Rattle.pt_map.specs.Absent.{MaySurvey, Surveyed}
 use Rattle.pt_map.proofs.NearRoot.{may_survey, surveyed_far, surveyed_near}
 use Rattle.pt_map.proofs.PastRoot.{reach_is}

@@ -1,4 +1,4 @@
-use Rattle.std.proofs.Common.{◌≡◌, ◌+◌, ◌<◌, ◌≤◌, arith}
+use Rattle.std.proofs.Common.{◌+◌, arith}
 use Rattle.pt_model.proofs.Tops.{reaches_top, top_low}
 use Rattle.pt_map.proofs.PastRoot.{above_reach, last_reaches}
 use Rattle.pt_map.proofs.beyond.top_over.Goals as goal

@@ -4,7 +4,6 @@ use Rattle.pt_format.specs.Laws.{IsLayout}
 use Rattle.pt_model.specs.Layout.{Layout}
 use Rattle.pt_view.specs.Views.{linked_count}
 use Rattle.pt_map.specs.Requests.{EndsBelow, MayMapBelow}
-use Rattle.pt_map.specs.Stands.{IsBlockOf}
 use Rattle.pt_map.proofs.request.map_block.Goals as goal
 
 -- the level of a block of one entry, by its size

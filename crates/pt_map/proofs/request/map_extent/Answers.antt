@@ -1,11 +1,11 @@
-use Rattle.std.proofs.Common.{◌≡◌, ℕ, false, ◌+◌, ◌*◌, ◌/◌, ◌<◌, ◌≤◌, sym, ◌∙◌, subst, arith}
+use Rattle.std.proofs.Common.{◌≡◌, ℕ, ◌+◌, ◌*◌, ◌/◌, ◌<◌, ◌≤◌, sym, ◌∙◌, subst, arith}
 use Rattle.pt_model.specs.Layout.{pages_of_entry, pages_of_table}
 use Rattle.pt_view.proofs.Loads.{root_loads}
 use Rattle.pt_map.proofs.PastRoot.{input_few}
 use Rattle.pt_tile.proofs.FirstSizes.{size_small}
 use Rattle.pt_view.specs.Views.{linked_count}
 use Rattle.pt_map.proofs.MapFromRoot.{Begun, Reached, clear_here, fixed_reach, low_size, may_map, owns_root, range_root, to_table}
-use Rattle.pt_map.proofs.MapAnswers.{Done, accounts, answers, left_path, rests_after}
+use Rattle.pt_map.proofs.MapAnswers.{Done, accounts, answers, rests_after}
 use Rattle.pt_map.proofs.OneBlock.{block_end}
 use Rattle.pt_map.proofs.request.map_extent.Given.{Over}
 use Rattle.pt_map.proofs.request.map_extent.Goals.{else-GROWS-via-then-GROWS+else-extent-spine_end, else-GROWS-via-else-GROWS, After-INDEX, After-climb, After-climb-2, After-descend-level, After-map_at-mapped}

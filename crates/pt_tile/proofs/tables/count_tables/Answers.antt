@@ -24,4 +24,4 @@ returns g c = λ prot.
     c.loop-level.invariant.number prot
     ∙ ap (λ (l : ℕ). levels_below l (all_needed g.F.Format.layout c.args.levels (tiling g.F.Format.layout prot c.args.span.first c.args.out c.args.span.count))) last in
     number ∙ (all_levels g.F.Format.layout g.met.F.Format.lawful_layout c.args.levels c.args.span.first c.args.out c.args.span.count prot
-          c.requires.at_least c.requires.at_most c.requires.in_input c.requires.in_output)
+    c.requires.at_least c.requires.at_most c.requires.in_input c.requires.in_output)
