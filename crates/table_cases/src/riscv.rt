@@ -76,15 +76,14 @@ fn sixteen_pages_are_sixteen_equal_words(rt: HostRuntime) {
 
 #[test]
 fn pointers_and_sizes(rt: HostRuntime) {
-    let word = RiscV::<4>::table_word(3, 0x1_0000_3000);
-    assert_eq!(rt; word, 0x4000_0c01);
+    let word = RiscV::<4>::table_word(3, 0x1_0000_0000);
+    assert_eq!(rt; word, 0x4000_0001);
     let table = Read::Table {
-        address: 0x1_0000_3000,
+        address: 0x1_0000_0000,
     };
     assert_eq!(rt; RiscV::<4>::read_word(3, word), table);
     assert_eq!(rt; RiscV::<4>::read_word(0, word), Read::Alien);
-    assert_eq!(rt; RiscV::<4>::address_of(3, word), 0x1_0000_3000);
-    assert!(rt; !RiscV::<4>::is_leaf(3, word));
+    assert_eq!(rt; RiscV::<4>::address_of(3, word), 0x1_0000_0000);
     assert_eq!(rt; RiscV::<4>::sizes(0), 0x11);
     assert_eq!(rt; RiscV::<4>::sizes(3), 1 << 27);
     assert_eq!(rt; RiscV::<5>::sizes(4), 1 << 36);
