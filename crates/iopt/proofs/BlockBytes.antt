@@ -5,7 +5,7 @@ use Rattle.std.specs.List.{list_all, list_any}
 use Rattle.std.proofs.lemmas.Bool.{and_parts, cases_Bool, eqb-true, false≢true, ltb-true}
 use Rattle.std.proofs.lemmas.Nat.{one_shl, pow_below, pow_pos}
 use Rattle.pt_model.specs.declared.block.Block.{Block}
-use Rattle.pt_model.specs.Layout.{Layout, input_pages, is_size, pages}
+use Rattle.pt_model.specs.Layout.{Layout, input_pages, pages}
 use Rattle.pt_format.specs.Laws.{IsLayout}
 use Rattle.iopt.specs.Telling.{IsNameable}
 

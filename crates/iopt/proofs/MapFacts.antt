@@ -15,9 +15,8 @@ use Rattle.pt_model.specs.Book.{Book, MapRefusal, Misaligned, OutsideLease, Outp
 use Rattle.pt_model.specs.Run.{after_map, map_answer, refused_answer}
 use Rattle.pt_view.specs.declared.view.View.{View}
 use Rattle.pt_view.specs.declared.view.Piece.{Piece}
-use Rattle.pt_view.specs.Pieces.{IsOneOf, all_pieces, pieces_of, words_of}
+use Rattle.pt_view.specs.Pieces.{all_pieces, pieces_of, words_of}
 use Rattle.pt_view.specs.Views.{IsAtRest, SameBook, SameRange, book_of, linked_of}
-use Rattle.pt_model.specs.Sets.{IsAmong}
 use Rattle.pt_view.specs.Loads.{ByLoads}
 use Rattle.pt_map.specs.Answers.{IsMapped, IsRefused, extent_at, lacking}
 use Rattle.iopt.specs.Built.{machine}
@@ -102,13 +101,10 @@ module _ (f : Layout) (v w : View) (ready : IsReady f v) (va pa len : ℕ) (prot
       a ≡ map_answer (machine_in f v) (book_in v) va pa len prot → after_map a after_it (book_in v) ≡ book_in v → MapsAs f v w va pa len prot a
   kept range book path prepared end a is same = record {
     ready = record {
-      rest = record {
-        path = path ∙ ready.rest.path;
-        prepared = prepared ∙ ready.rest.prepared;
-        end = end ∙ ready.rest.end;
-        pieces = book.pieces ∙ ready.rest.pieces ∙ ap (λ (xs : List Piece). all_pieces f (blocks_of xs)) (sym book.pieces);
-      };
-      levels = range.levels ∙ ready.levels;
+      path = path ∙ ready.path;
+      prepared = prepared ∙ ready.prepared;
+      end = end ∙ ready.end;
+      pieces = book.pieces ∙ ready.pieces ∙ ap (λ (xs : List Piece). all_pieces f (blocks_of xs)) (sym book.pieces);
     };
     machine = same_machine range;
     answers = is;
@@ -137,7 +133,7 @@ module _ (f : Layout) (v w : View) (ready : IsReady f v) (va pa len : ℕ) (prot
       let is : map_answer (machine_in f v) (book_in v) va pa len prot ≡ mapping.Mapped = answer_by None false e (short_is false (le-ltb v.frames (linked_of v + length lacks) enough)) in
       let now : blocks_of w.pieces ≡ (mapped f v.levels (book_of v blocks) first (first + count - first) out prot).blocks = blocks_are f w _ done.rest in
       record {
-        ready = record { rest = subst (IsAtRest f w) (sym now) done.rest; levels = done.range.levels ∙ ready.levels };
+        ready = subst (IsAtRest f w) (sym now) done.rest;
         machine = same_machine done.range;
         answers = sym is;
         book = (λ i. record { first = done.range.first i; count = done.range.count i; blocks = now i; tables = done.tables i; top = done.top i })
@@ -148,9 +144,6 @@ module _ (f : Layout) (v w : View) (ready : IsReady f v) (va pa len : ℕ) (prot
 -- A lookup leaves the holder as it was, but for what it knows.
 pub looked : (f : Layout) (tells : Type 0) (v w : View) → IsReady f v → ByLoads tells v w → IsAtRest f w (blocks_of v.pieces) → IsReady f w × (book_in w ≡ book_in v)
 looked f tells v w ready walked rest = (
-  record {
-    rest = subst (λ (xs : List Piece). IsAtRest f w (blocks_of xs)) (sym walked.book.pieces) rest;
-    levels = walked.range.levels ∙ ready.levels;
-  },
+  subst (λ (xs : List Piece). IsAtRest f w (blocks_of xs)) (sym walked.book.pieces) rest,
   λ i. record { first = walked.range.first i; count = walked.range.count i; blocks = blocks_of (walked.book.pieces i); tables = walked.book.tables i; top = walked.book.top i },
 )

@@ -4,13 +4,14 @@ use Rattle.pt_model.specs.declared.block.Block.{Block}
 use Rattle.pt_model.specs.declared.block.Prot.{Prot}
 use Rattle.pt_model.specs.declared.command.Command.{Command}
 use Rattle.pt_model.specs.declared.command.What.{What}
-use Rattle.pt_model.specs.declared.command.What.TheVariants.{Map}
+use Rattle.pt_model.specs.declared.command.What.TheVariants.{Map, Unmap}
 use Rattle.pt_model.specs.declared.reply.Answer.{Answer}
 use Rattle.pt_model.specs.declared.reply.MapAnswer.{MapAnswer}
+use Rattle.pt_model.specs.declared.reply.UnmapAnswer.{UnmapAnswer}
 use Rattle.pt_model.specs.declared.reply.LookupAnswer.{LookupAnswer}
 use Rattle.pt_model.specs.Layout.{Layout}
 use Rattle.pt_model.specs.Book.{Book}
-use Rattle.pt_model.specs.Run.{Machine, answer_to, book_after, lookup_answer, map_answer, replies_from, run_of}
+use Rattle.pt_model.specs.Run.{Machine, answer_to, book_after, lookup_answer, map_answer, replies_from, run_of, unmap_answer}
 use Rattle.pt_model.specs.Text.{replies_text}
 use Rattle.pt_view.specs.declared.view.View.{View}
 use Rattle.pt_view.specs.declared.view.Piece.{Piece}
@@ -29,10 +30,9 @@ book_in v = book_of v (blocks_of v.pieces)
 abbrev pub machine_in : Layout → View → Machine
 machine_in f v = machine f v.levels v.frames
 
--- the holder is at rest, and all levels of its format are there from the start
-pub record IsReady (f : Layout) (v : View) : Type 0 where
-  pub rest : IsAtRest f v (blocks_of v.pieces)
-  pub levels : v.levels ≡ f.levels
+-- the holder is at rest
+abbrev pub IsReady : Layout → View → Type 0
+IsReady f v = IsAtRest f v (blocks_of v.pieces)
 
 -- What a command does to the holder: it is ready again as the same machine, and its answer and its book are those of the
 -- book machine.
@@ -41,6 +41,12 @@ pub record MapsAs (f : Layout) (v w : View) (va pa len : ℕ) (prot : Prot) (ans
   pub machine : machine_in f w ≡ machine_in f v
   pub answers : answer ≡ map_answer (machine_in f v) (book_in v) va pa len prot
   pub book : book_in w ≡ book_after (machine_in f v) (book_in v) (Map va pa len prot)
+
+pub record UnmapsAs (f : Layout) (v w : View) (va len : ℕ) (answer : UnmapAnswer) : Type 0 where
+  pub ready : IsReady f w
+  pub machine : machine_in f w ≡ machine_in f v
+  pub answers : answer ≡ unmap_answer (machine_in f v) (book_in v) va len
+  pub book : book_in w ≡ book_after (machine_in f v) (book_in v) (Unmap va len)
 
 pub record FindsAs (f : Layout) (v w : View) (va : ℕ) (answer : LookupAnswer) : Type 0 where
   pub ready : IsReady f w

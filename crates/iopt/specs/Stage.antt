@@ -1,7 +1,7 @@
 -- Which scripts the program runs so far, and what it answers to a text.
 use Rattle.std.specs.Prelude.{◌≡◌, ◌⊎◌, ℕ, List, [], ◌∷◌, Option, None, Some, if◌then◌else◌}
 use Rattle.pt_model.specs.declared.command.Name.{Name}
-use Rattle.pt_model.specs.declared.command.Name.TheVariants.{VtdSs3, VtdSs4, VtdSs5, X86L4, X86L5, Sv39, Sv48, Sv57}
+use Rattle.pt_model.specs.declared.command.Name.TheVariants.{AmdV1, VtdSs3, VtdSs4, VtdSs5, X86L4, X86L5, Vmsa4, Vmsa16, Vmsa64, Sv39, Sv48, Sv57}
 use Rattle.pt_model.specs.declared.command.Command.{Command}
 use Rattle.pt_model.specs.declared.command.Ask.{Ask}
 use Rattle.pt_model.specs.Layout.{Layout}
@@ -14,22 +14,27 @@ use Rattle.pt_script.specs.declared.error.ScriptError.{ScriptError}
 use Rattle.pt_script.specs.declared.error.ScriptError.TheVariants.{Bad, Memory}
 use Rattle.pt_script.specs.Scripts.{text_in}
 use Rattle.pt_script.specs.Text.{IsBadAt}
+use Rattle.fmt_amdv1.specs.AmdWords as amd
 use Rattle.fmt_vtdss.specs.VtdWords as vtd
 use Rattle.fmt_x86.specs.X86Words as x86
+use Rattle.fmt_vmsa.specs.VmsaWords as vmsa
 use Rattle.fmt_riscv.specs.RiscvWords as riscv
 use Rattle.iopt.specs.Built.{is_built, machine}
 
 -- the formats that run
 abbrev pub layout_of : Name → Option Layout
+layout_of AmdV1 = Some amd.layout
 layout_of VtdSs3 = Some (vtd.layout 3)
 layout_of VtdSs4 = Some (vtd.layout 4)
 layout_of VtdSs5 = Some (vtd.layout 5)
 layout_of X86L4 = Some (x86.layout 4)
 layout_of X86L5 = Some (x86.layout 5)
+layout_of Vmsa4 = Some (vmsa.layout 12)
+layout_of Vmsa16 = Some (vmsa.layout 14)
+layout_of Vmsa64 = Some (vmsa.layout 16)
 layout_of Sv39 = Some (riscv.layout 3)
 layout_of Sv48 = Some (riscv.layout 4)
 layout_of Sv57 = Some (riscv.layout 5)
-layout_of _ = None
 
 -- the line of the first command that doesn't run, or the one that follows
 abbrev pub first_unbuilt : List Command → Option ℕ → Option ℕ

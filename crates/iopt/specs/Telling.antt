@@ -1,5 +1,5 @@
 -- What the text of a reply can tell.
-use Rattle.std.specs.Prelude.{ℕ, ◌+◌, nat_lt, Bool, IsTrue}
+use Rattle.std.specs.Prelude.{◌+◌, nat_lt, Bool, IsTrue}
 use Rattle.std.specs.List.{list_all}
 use Rattle.pt_model.specs.declared.block.Block.{Block}
 use Rattle.pt_model.specs.declared.reply.UnmapAnswer.{UnmapAnswer}

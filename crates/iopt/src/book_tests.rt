@@ -1,6 +1,6 @@
 //! The program against the slow book of the definitions.
 
-ghost use Rattle.std.specs.Prelude.{IfOk, IsTrue};
+ghost use Rattle.std.specs.Prelude.{◌<◌, IfOk, IsTrue};
 ghost use Rattle.pt_book.specs.Spaces.{IsStart};
 ghost use Rattle.iopt.specs.Telling.{NamesLegalBlock, has_small_blocks};
 
@@ -8,7 +8,9 @@ use crate::status::Status;
 use crate::text::push_reply;
 use crate::top::run;
 use crate::words::Words;
+use fmt_amdv1::AmdV1;
 use fmt_riscv::RiscV;
+use fmt_vmsa::Vmsa;
 use fmt_vtdss::VtdSs;
 use fmt_x86::X86;
 use pt_book::ListBook;
@@ -19,83 +21,162 @@ use pt_stream::{MemorySink, SureSource, push_dec, push_hex};
 use std::alloc::Global;
 use std::test::Fail;
 
-/// A format, by its name in a script, and numbers of frames to run scripts in. The input space ends at `end`, and its
-/// last page begins at `last`; so for the outputs.
+/// A format, by its name in a script and the log2 of the bytes of its pages, and numbers of frames to run scripts in.
+/// The input space ends at `end`, which is 0 for `2^64`, and its last page begins at `last`; so for the outputs.
 #[derive(Clone, Copy)]
 pub(crate) struct FormatCase {
     pub name: &'static [u8],
+    pub granule: u32,
     pub end: u64,
     pub last: u64,
     pub outputs_end: u64,
     pub last_output: u64,
+    /// The bytes of a group of sixteen pages or more, of the lowest table, and of the one above.
+    pub borders: [u64; 3],
     /// One, the fewest that map a page, and more.
     pub frames: [u32; 5],
 }
 
 /// The formats that run. Their frames are one, as many as the levels, two more than those, twice as many, and sixty.
-pub(crate) const FORMATS: [FormatCase; 8] = [
+pub(crate) const FORMATS: [FormatCase; 14] = [
+    FormatCase {
+        name: b"amdv1 levels 3",
+        granule: 12,
+        end: 0,
+        last: 0xffff_ffff_ffff_f000,
+        outputs_end: 0x10_0000_0000_0000,
+        last_output: 0xf_ffff_ffff_f000,
+        borders: [0x1_0000, 0x20_0000, 0x4000_0000],
+        frames: [1, 3, 5, 6, 60],
+    },
+    FormatCase {
+        name: b"amdv1 levels 4",
+        granule: 12,
+        end: 0,
+        last: 0xffff_ffff_ffff_f000,
+        outputs_end: 0x10_0000_0000_0000,
+        last_output: 0xf_ffff_ffff_f000,
+        borders: [0x1_0000, 0x20_0000, 0x4000_0000],
+        frames: [1, 4, 6, 8, 60],
+    },
+    FormatCase {
+        name: b"amdv1 levels 6",
+        granule: 12,
+        end: 0,
+        last: 0xffff_ffff_ffff_f000,
+        outputs_end: 0x10_0000_0000_0000,
+        last_output: 0xf_ffff_ffff_f000,
+        borders: [0x1_0000, 0x20_0000, 0x4000_0000],
+        frames: [1, 6, 8, 12, 60],
+    },
     FormatCase {
         name: b"vtdss3",
+        granule: 12,
         end: 0x80_0000_0000,
         last: 0x7f_ffff_f000,
         outputs_end: 0x10_0000_0000_0000,
         last_output: 0xf_ffff_ffff_f000,
+        borders: [0x1_0000, 0x20_0000, 0x4000_0000],
         frames: [1, 3, 5, 6, 60],
     },
     FormatCase {
         name: b"vtdss4",
+        granule: 12,
         end: 0x1_0000_0000_0000,
         last: 0xffff_ffff_f000,
         outputs_end: 0x10_0000_0000_0000,
         last_output: 0xf_ffff_ffff_f000,
+        borders: [0x1_0000, 0x20_0000, 0x4000_0000],
         frames: [1, 4, 6, 8, 60],
     },
     FormatCase {
         name: b"vtdss5",
+        granule: 12,
         end: 0x200_0000_0000_0000,
         last: 0x1ff_ffff_ffff_f000,
         outputs_end: 0x10_0000_0000_0000,
         last_output: 0xf_ffff_ffff_f000,
+        borders: [0x1_0000, 0x20_0000, 0x4000_0000],
         frames: [1, 5, 7, 10, 60],
     },
     FormatCase {
         name: b"x86-4",
+        granule: 12,
         end: 0x8000_0000_0000,
         last: 0x7fff_ffff_f000,
         outputs_end: 0x10_0000_0000_0000,
         last_output: 0xf_ffff_ffff_f000,
+        borders: [0x1_0000, 0x20_0000, 0x4000_0000],
         frames: [1, 4, 6, 8, 60],
     },
     FormatCase {
         name: b"x86-5",
+        granule: 12,
         end: 0x100_0000_0000_0000,
         last: 0xff_ffff_ffff_f000,
         outputs_end: 0x10_0000_0000_0000,
         last_output: 0xf_ffff_ffff_f000,
+        borders: [0x1_0000, 0x20_0000, 0x4000_0000],
         frames: [1, 5, 7, 10, 60],
     },
     FormatCase {
+        name: b"vmsa4",
+        granule: 12,
+        end: 0x1_0000_0000_0000,
+        last: 0xffff_ffff_f000,
+        outputs_end: 0x1_0000_0000_0000,
+        last_output: 0xffff_ffff_f000,
+        borders: [0x1_0000, 0x20_0000, 0x4000_0000],
+        frames: [1, 4, 6, 8, 60],
+    },
+    FormatCase {
+        name: b"vmsa16",
+        granule: 14,
+        end: 0x1_0000_0000_0000,
+        last: 0xffff_ffff_c000,
+        outputs_end: 0x1_0000_0000_0000,
+        last_output: 0xffff_ffff_c000,
+        borders: [0x20_0000, 0x200_0000, 0x10_0000_0000],
+        frames: [1, 4, 6, 8, 60],
+    },
+    FormatCase {
+        name: b"vmsa64",
+        granule: 16,
+        end: 0x1_0000_0000_0000,
+        last: 0xffff_ffff_0000,
+        outputs_end: 0x1_0000_0000_0000,
+        last_output: 0xffff_ffff_0000,
+        borders: [0x20_0000, 0x2000_0000, 0x400_0000_0000],
+        frames: [1, 3, 5, 6, 60],
+    },
+    FormatCase {
         name: b"sv39",
+        granule: 12,
         end: 0x40_0000_0000,
         last: 0x3f_ffff_f000,
         outputs_end: 0x100_0000_0000_0000,
         last_output: 0xff_ffff_ffff_f000,
+        borders: [0x1_0000, 0x20_0000, 0x4000_0000],
         frames: [1, 3, 5, 6, 60],
     },
     FormatCase {
         name: b"sv48",
+        granule: 12,
         end: 0x8000_0000_0000,
         last: 0x7fff_ffff_f000,
         outputs_end: 0x100_0000_0000_0000,
         last_output: 0xff_ffff_ffff_f000,
+        borders: [0x1_0000, 0x20_0000, 0x4000_0000],
         frames: [1, 4, 6, 8, 60],
     },
     FormatCase {
         name: b"sv57",
+        granule: 12,
         end: 0x100_0000_0000_0000,
         last: 0xff_ffff_ffff_f000,
         outputs_end: 0x100_0000_0000_0000,
         last_output: 0xff_ffff_ffff_f000,
+        borders: [0x1_0000, 0x20_0000, 0x4000_0000],
         frames: [1, 5, 7, 10, 60],
     },
 ];
@@ -165,15 +246,18 @@ fn book_replies<F: Format>(alloc: Global, script: &Script) -> Result<Vec<u8>, Fa
 
 fn replies_by_book(alloc: Global, script: &Script) -> Result<Vec<u8>, Fail> {
     match script.format {
+        Name::AmdV1 => book_replies::<AmdV1>(alloc, script),
         Name::VtdSs3 => book_replies::<VtdSs<3>>(alloc, script),
         Name::VtdSs4 => book_replies::<VtdSs<4>>(alloc, script),
         Name::VtdSs5 => book_replies::<VtdSs<5>>(alloc, script),
         Name::X86L4 => book_replies::<X86<4>>(alloc, script),
         Name::X86L5 => book_replies::<X86<5>>(alloc, script),
+        Name::Vmsa4 => book_replies::<Vmsa<12>>(alloc, script),
+        Name::Vmsa16 => book_replies::<Vmsa<14>>(alloc, script),
+        Name::Vmsa64 => book_replies::<Vmsa<16>>(alloc, script),
         Name::Sv39 => book_replies::<RiscV<3>>(alloc, script),
         Name::Sv48 => book_replies::<RiscV<4>>(alloc, script),
         Name::Sv57 => book_replies::<RiscV<5>>(alloc, script),
-        _ => Ok(Vec::new(alloc)),
     }
 }
 
@@ -190,6 +274,41 @@ fn agree(alloc: Global, text: &[u8]) -> Result<bool, Fail> {
     let mut sink = MemorySink::new(alloc, ROOM, ROOM, Vec::new(alloc))?;
     let status = run(alloc, &words, &mut source, &mut sink);
     Ok(status == Status::Done && !expected.is_empty() && sink.bytes() == expected.as_slice())
+}
+
+/// What a command asks for, where its numbers are those of pages of 4 KiB and the format's are `2^shift` times as large.
+fn scaled(what: What, shift: u32) -> What
+    requires { shift < 64 }
+{
+    match what {
+        What::Map { va, pa, len, prot } => What::Map {
+            va: va << shift,
+            pa: pa << shift,
+            len: len << shift,
+            prot,
+        },
+        What::Unmap { va, len } => What::Unmap {
+            va: va << shift,
+            len: len << shift,
+        },
+        What::Lookup { va } => What::Lookup { va: va << shift },
+        other => other,
+    }
+}
+
+/// The lines of maps, unmaps and lookups of pages of 4 KiB, for pages that are `2^shift` times as large.
+pub(crate) fn scaled_lines(alloc: Global, lines: &[u8], shift: u32) -> Result<Vec<u8>, Fail>
+    requires { shift < 64 }
+{
+    let mut text = Vec::from_slice(alloc, b"format vtdss5\nframes 1\nhold 0\n")?;
+    text.extend_from_slice(lines)?;
+    text.extend_from_slice(b"close\nend\n")?;
+    let script = parse(alloc, &text)?;
+    let mut out = Vec::new(alloc);
+    for command in script.body.commands() {
+        push_line(&mut out, scaled(command.what, shift))?;
+    }
+    Ok(out)
 }
 
 /// Whether the program and the book agree on these lines, in so many frames of which half are held.
@@ -209,6 +328,28 @@ pub(crate) fn agree_in(
     text.extend_from_slice(lines)?;
     text.extend_from_slice(b"close\nend\n")?;
     agree(alloc, &text)
+}
+
+/// Whether the program and the book agree on these lines of pages of 4 KiB, or of the format's pages in their place, in
+/// each number of frames of a format.
+fn agree_in_frames(alloc: Global, format: FormatCase, lines: &[u8]) -> Result<bool, Fail> {
+    let lines = scaled_lines(alloc, lines, format.granule.saturating_sub(12) % 64)?;
+    for frames in format.frames {
+        if !agree_in(alloc, format, frames, &lines)? {
+            return Ok(false);
+        }
+    }
+    Ok(true)
+}
+
+/// The same, in each format.
+pub(crate) fn agree_everywhere(alloc: Global, lines: &[u8]) -> Result<bool, Fail> {
+    for format in FORMATS {
+        if !agree_in_frames(alloc, format, lines)? {
+            return Ok(false);
+        }
+    }
+    Ok(true)
 }
 
 /// Input addresses: whole ones and others, in the spaces and at their ends, and past them.
@@ -241,9 +382,15 @@ const LENGTHS: [u64; 8] = [
 fn mixed(line: u32) -> What {
     let mix = u64::from(line).wrapping_mul(0x9e37_79b9_7f4a_7c15);
     let va = PLACES[(mix >> 40) as usize % 8];
-    if mix >> 60 < 6 {
+    if mix >> 60 < 4 {
         return What::Lookup {
             va: va ^ (mix >> 32 & 0x7ff),
+        };
+    }
+    if mix >> 60 < 8 {
+        return What::Unmap {
+            va,
+            len: LENGTHS[(mix >> 36) as usize % 8],
         };
     }
     What::Map {
@@ -293,7 +440,7 @@ pub(crate) fn push_line(out: &mut Vec<u8>, what: What) -> Result<(), Fail> {
 #[test]
 fn mixed_commands_are_answered_as_by_the_book(rt: HostRuntime) -> Result<(), Fail> {
     let mut lines = Vec::new(rt.alloc());
-    for line in 4..84 {
+    for line in 4..124 {
         push_line(&mut lines, mixed(line))?;
     }
     for format in FORMATS {

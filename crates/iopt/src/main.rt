@@ -23,6 +23,8 @@ mod status;
 mod tests;
 mod text;
 mod top;
+#[cfg(test)]
+mod unmap_tests;
 mod words;
 
 use crate::status::{Status, status_text};

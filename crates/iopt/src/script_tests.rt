@@ -1,11 +1,8 @@
 //! Scripts over all formats and in several numbers of frames, each against the slow book of the definitions.
 
-use crate::book_tests::{FORMATS, FormatCase, agree_in, push_line};
+use crate::book_tests::{FORMATS, FormatCase, agree_everywhere, agree_in, push_line};
 use pt_model::{Prot, What};
-use std::alloc::Global;
 use std::test::Fail;
-
-const PAGE: u64 = 0x1000;
 
 /// Lines of maps and lookups.
 const MAPS: [&[u8]; 7] = [
@@ -46,26 +43,6 @@ const MAPS: [&[u8]; 7] = [
         map 0x80000000 0x0 0x1000 rw\nlookup 0x1000000\nlookup 0x40001000\nlookup 0x80000000\n",
 ];
 
-/// Whether the program and the book agree on these lines in each number of frames of a format.
-fn agree_in_frames(alloc: Global, format: FormatCase, lines: &[u8]) -> Result<bool, Fail> {
-    for frames in format.frames {
-        if !agree_in(alloc, format, frames, lines)? {
-            return Ok(false);
-        }
-    }
-    Ok(true)
-}
-
-/// The same, in each format.
-fn agree_everywhere(alloc: Global, lines: &[u8]) -> Result<bool, Fail> {
-    for format in FORMATS {
-        if !agree_in_frames(alloc, format, lines)? {
-            return Ok(false);
-        }
-    }
-    Ok(true)
-}
-
 #[test]
 fn maps_are_answered_as_by_the_book(rt: HostRuntime) -> Result<(), Fail> {
     for lines in MAPS {
@@ -81,25 +58,26 @@ fn map(va: u64, pa: u64, len: u64) -> What {
 
 /// Maps and lookups of the last page of the space, of the first one past it, and onto the last output page.
 fn at_the_ends(format: FormatCase) -> [What; 15] {
+    let page = 1 << (format.granule % 64);
+    let table = format.borders[1];
+    let last_table = format.last & !table.wrapping_sub(1);
     [
-        map(format.last, 0, PAGE),
-        map(format.last, 0, 2 * PAGE),
-        map(format.end, 0, PAGE),
+        map(format.last, 0, page),
+        map(format.last, 0, page.wrapping_add(page)),
+        map(format.end, 0, page),
         What::Lookup {
             va: format.last | 0xfff,
         },
         What::Lookup { va: format.end },
-        map(0, format.last_output, PAGE),
+        map(0, format.last_output, page),
         What::Lookup { va: 0xfff },
-        map(2 * PAGE, format.last_output, 2 * PAGE),
-        map(2 * PAGE, format.outputs_end, PAGE),
-        map(format.last & !0x1f_ffff, 0x40_0000, 0x1f_f000),
-        What::Lookup {
-            va: format.last & !0x1f_ffff,
-        },
-        map(0x20_0000, format.last_output & !0x1f_ffff, 0x20_0000),
-        What::Lookup { va: 0x3f_ffff },
-        map(0xffff_ffff_ffff_f000, 0, PAGE),
+        map(table, format.last_output, page.wrapping_add(page)),
+        map(table, format.outputs_end, page),
+        map(last_table, table, table.wrapping_sub(page)),
+        What::Lookup { va: last_table },
+        map(table, format.last_output & !table.wrapping_sub(1), table),
+        What::Lookup { va: table | 0xfff },
+        map(page.wrapping_neg(), 0, page),
         What::Lookup {
             va: 0xffff_ffff_ffff_ffff,
         },

@@ -1,12 +1,15 @@
 //! The scripts that the program runs so far.
 
-ghost use Rattle.std.specs.Prelude.{◌≡◌, ◌<◌, ◌≤◌, false, IsTrue, IsNone, IfOk, IfErr};
+ghost use Rattle.std.specs.Prelude.{◌≡◌, ◌<◌, ◌≤◌, IsTrue, IsNone, IfOk, IfErr};
 ghost use Rattle.pt_model.specs.Words.{frame_limit};
 ghost use Rattle.iopt.specs.Built.{is_built, are_built};
+ghost use Rattle.iopt.specs.Telling.{has_small_blocks};
 ghost use Rattle.iopt.specs.Stage.{layout_of, first_unbuilt, first_ask, unbuilt_in, unbuilt_line, IsRunOn, IsRunOf, IsAnswered, IsRefusedFor, IsStopped, WhatRunsIsNotRefused};
 
 use crate::runner::run_commands;
+use fmt_amdv1::AmdV1;
 use fmt_riscv::RiscV;
+use fmt_vmsa::Vmsa;
 use fmt_vtdss::VtdSs;
 use fmt_x86::X86;
 use pt_format::Format;
@@ -18,7 +21,10 @@ use std::alloc::Global;
 fn is_built(what: What) -> bool
     ensures { result ≡ is_built what }
 {
-    matches!(what, What::Map { .. } | What::Lookup { .. })
+    matches!(
+        what,
+        What::Map { .. } | What::Unmap { .. } | What::Lookup { .. }
+    )
 }
 
 fn first_ask(asks: &[Ask]) -> Option<u32>
@@ -52,8 +58,9 @@ fn unbuilt_in(script: &Script) -> Option<u32>
 
 /// The replies to a script of this format, or its first line that doesn't run.
 fn run_script<F: Format>(alloc: Global, script: &Script) -> Result<Vec<u8>, ScriptError>
-    requires fixed { F.layout.grows ≡ false }
-    requires levels { script.now.levels ≡ F.layout.levels }
+    requires small { IsTrue (has_small_blocks F.layout) }
+    requires low { F.layout.start ≤ script.now.levels }
+    requires high { script.now.levels ≤ F.layout.levels }
     requires few { script.now.frames ≤ frame_limit F.layout }
     requires hold { script.now.hold < script.now.frames }
     ensures answered { IfOk result (λ replies. IsRunOn F.layout script.now replies.items) }
@@ -77,18 +84,18 @@ fn run_any(alloc: Global, script: &Script) -> Result<Vec<u8>, ScriptError>
     ensures refused { IfErr result (IsStopped (unbuilt_line (layout_of script.now.format) script.now)) }
 {
     match script.format {
+        Name::AmdV1 => run_script::<AmdV1>(alloc, script),
         Name::VtdSs3 => run_script::<VtdSs<3>>(alloc, script),
         Name::VtdSs4 => run_script::<VtdSs<4>>(alloc, script),
         Name::VtdSs5 => run_script::<VtdSs<5>>(alloc, script),
         Name::X86L4 => run_script::<X86<4>>(alloc, script),
         Name::X86L5 => run_script::<X86<5>>(alloc, script),
+        Name::Vmsa4 => run_script::<Vmsa<12>>(alloc, script),
+        Name::Vmsa16 => run_script::<Vmsa<14>>(alloc, script),
+        Name::Vmsa64 => run_script::<Vmsa<16>>(alloc, script),
         Name::Sv39 => run_script::<RiscV<3>>(alloc, script),
         Name::Sv48 => run_script::<RiscV<4>>(alloc, script),
         Name::Sv57 => run_script::<RiscV<5>>(alloc, script),
-        _ => Err(ScriptError::Bad {
-            line: 1,
-            reason: Reason::Unbuilt,
-        }),
     }
 }
 

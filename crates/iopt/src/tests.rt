@@ -136,7 +136,7 @@ fn scripts_are_answered(rt: HostRuntime) -> Result<(), Fail> {
 }
 
 // Inputs that are refused, each with its first bad line and the reason.
-const REFUSED: [(&[u8], u32, Reason); 12] = [
+const REFUSED: [(&[u8], u32, Reason); 11] = [
     (b"", 1, Reason::Ended),
     (
         b"format vtdss3\nframes 8\nhold 0\nclose\nend",
@@ -169,12 +169,7 @@ const REFUSED: [(&[u8], u32, Reason); 12] = [
         Reason::Limit,
     ),
     (
-        b"format vmsa4\nframes 8\nhold 0\nclose\nend\n",
-        1,
-        Reason::Unbuilt,
-    ),
-    (
-        b"format vtdss3\nframes 8\nhold 1\nunmap 0x0 0x1000\nclose\nend\n",
+        b"format vtdss3\nframes 8\nhold 1\nrelease\nclose\nend\n",
         4,
         Reason::Unbuilt,
     ),

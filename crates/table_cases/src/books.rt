@@ -67,13 +67,13 @@ fn maps_have_their_tables(rt: HostRuntime) -> Result<(), Fail> {
 #[test]
 fn many_pages_have_many_tables(rt: HostRuntime) -> Result<(), Fail> {
     let mut book = ListBook::<VtdSs<3>>::new(rt.alloc(), 3);
-    // the output is off by a page, so that 2 GiB are pages alone
-    assert!(rt; takes(&mut book, (2 * GIBIBYTE, PAGE, 2 * GIBIBYTE), 1027)?);
-    assert_eq!(rt; book.tables().len(), 1026);
-    assert!(rt; book.tables()[1023] == at(0, 0xf_fe00));
-    // 1 GiB below it, by pages too, and a page far from these
-    assert!(rt; takes(&mut book, (GIBIBYTE, PAGE, GIBIBYTE), 1540)?);
-    assert!(rt; takes(&mut book, (0, 0, PAGE), 1542)?);
+    // the output is off by a page, so that 256 MiB are pages alone
+    assert!(rt; takes(&mut book, (2 * GIBIBYTE, PAGE, GIBIBYTE / 4), 130)?);
+    assert_eq!(rt; book.tables().len(), 129);
+    assert!(rt; book.tables()[127] == at(0, 0x8_fe00));
+    // 128 MiB below it, by pages too, and a page far from these
+    assert!(rt; takes(&mut book, (GIBIBYTE, PAGE, GIBIBYTE / 8), 195)?);
+    assert!(rt; takes(&mut book, (0, 0, PAGE), 197)?);
     Ok(())
 }
 

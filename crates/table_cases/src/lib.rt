@@ -8,6 +8,8 @@ mod books;
 #[cfg(test)]
 mod owned;
 #[cfg(test)]
+mod riscv;
+#[cfg(test)]
 mod tests;
 #[cfg(test)]
 mod walks;

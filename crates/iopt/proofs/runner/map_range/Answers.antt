@@ -11,7 +11,7 @@ returns-in-Ok-clause-maps g c =
     let v = c.args.plain.now.view in
     let w = c.map.new.holder.view in
     let e = c.in-Ok.ensures in
-    let rest = c.requires.ready.rest in
+    let rest = c.requires.ready in
     let enough = (e.accounted tt (blocks_of v.pieces) rest).enough in
     maps f v w c.requires.ready c.args.va c.args.pa c.args.len c.args.prot
     (e.answered.accepted (blocks_of v.pieces) rest) (omega arith) (e.answered.mapped (blocks_of v.pieces) rest)
@@ -22,7 +22,7 @@ returns-in-Err-NoFrames-clause-maps g c =
     let v = c.args.plain.now.view in
     let w = c.map.new.holder.view in
     let e = c.in-Err-NoFrames.ensures in
-    let rest = c.requires.ready.rest in
+    let rest = c.requires.ready in
     let x = extent_at f c.args.va c.args.pa c.args.len c.args.prot in
     let short = subst (IsShortOf f v (linked_count v c.args.plain.now.aside) (blocks_of v.pieces) x) c.in-Err-NoFrames.field-0-is ((e.accounted tt).1 (blocks_of v.pieces) rest) in
     let more = short.0 in
