@@ -1,0 +1,6 @@
+pub mod Apart
+pub mod Goes
+pub mod Laws
+pub mod Need
+pub mod Covers
+pub mod OneText
