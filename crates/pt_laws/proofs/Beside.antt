@@ -14,7 +14,8 @@ use Rattle.pt_model.specs.Cuts.{cut_refusal, part_of, joined}
 use Rattle.pt_laws.specs.Apart.{AreClosed}
 use Rattle.pt_laws.specs.Laws.{left_part, right_part, in_left, left_done, in_right, right_done, ComeTogether, by_lines}
 use Rattle.pt_laws.specs.Goes.{in_forks, Goes}
-use Rattle.pt_laws.proofs.ForkRuns.{replies_append, state_append, no_reply_with, no_reply_end, fork_list}
+use Rattle.pt_laws.specs.Need.{fork_lines}
+use Rattle.pt_laws.proofs.ForkRuns.{replies_append, state_append, no_reply_with, no_reply_end}
 use Rattle.pt_laws.proofs.Halves.{branches_come_together}
 use Rattle.pt_laws.proofs.Lines.{AgreeOn, runs_alike, split_at, LinesBelow, LinesFrom, agrees_below, agrees_from}
 
@@ -51,7 +52,7 @@ pub beside : (m : Machine) (l : ℕ → Bool) (b bl br : Book) (line at middle l
     IsTrue (is_size m.layout 0) → IsLawful m.layout m.levels b → cut_refusal m.layout b at ≡ None → AreClosed 0 left → AreClosed 0 right →
     Goes m (ByLines l) (part_of m.layout b b.first (page_under m.layout at)) bl left [] [] one →
     Goes m (ByLines l) (part_of m.layout b (page_under m.layout at) (span_end b)) br right [] [] two →
-    Goes m (ByLines l) b (joined bl br) (fork_list line at middle last left right []) [] old (old ++ (record { line = line; answer = answer.Fork (fork_answer m b at) } ∷ (one ++ two)))
+    Goes m (ByLines l) b (joined bl br) (fork_lines line at middle last left right []) [] old (old ++ (record { line = line; answer = answer.Fork (fork_answer m b at) } ∷ (one ++ two)))
 beside m l b bl br line at middle last left right old one two page good admitted cl cr gl gr =
     let come : (fs : List Opened) → is_running fs ≡ true → ComeTogether m (ByLines l) l b fs at left right =
     λ fs r. branches_come_together m (ByLines l) l b fs at left right (by_lines l) page good r admitted cl cr in

@@ -16,6 +16,8 @@ use Rattle.pt_model.specs.Unmap.{CutRefusal}
 use Rattle.pt_model.specs.Cuts.{cut_refusal, spanning}
 use Rattle.pt_laws.specs.Apart.{depth_behind, may_stand, AreClosed}
 use Rattle.pt_laws.specs.Goes.{in_forks, Goes}
+use Rattle.pt_laws.specs.Need.{fork_lines}
+use Rattle.pt_laws.specs.OneText.{is_call}
 
 before_append : (line : ℕ) (a : Option Answer) (xs ys : List Reply) → reply_before line a (xs ++ ys) ≡ reply_before line a xs ++ ys
 before_append line None xs ys = refl
@@ -45,13 +47,6 @@ goes_on m by b b' b'' cs ds es old mid new g h = record {
 pub goes_nowhere : (m : Machine) (by : Decided) (b : Book) (cs : List Command) (old : List Reply) → Goes m by b b cs cs old old
 goes_nowhere m by b cs old = record { replies = λ fs r. refl; state = λ fs r. refl }
 
--- whether a command is no line of a fork
-abbrev pub is_plain : What → Bool
-is_plain (Fork at) = false
-is_plain With = false
-is_plain End = false
-is_plain _ = true
-
 -- One plain command. What decides of frames says the same in every fork.
 
 plain_answer : (m : Machine) (by : Decided) (s : State) (line : ℕ) (what : What) (a : Answer) (rest : List Reply) → is_running s.forks ≡ true →
@@ -61,7 +56,7 @@ plain_answer m by s line what a rest runs e =
     ap (λ (r : Bool). reply_before line (if r then answer_to m s.book (is_lacking m by s line what) what else None) rest) runs
     ∙ ap (λ (o : Option Answer). reply_before line o rest) e
 
-plain_behind : (m : Machine) (by : Decided) (s : State) (line : ℕ) (what : What) → is_plain what ≡ true → is_running s.forks ≡ true →
+plain_behind : (m : Machine) (by : Decided) (s : State) (line : ℕ) (what : What) → is_call what ≡ true → is_running s.forks ≡ true →
     behind_what m by s line what ≡ record s { book = book_after m s.book (is_lacking m by s line what) what }
 plain_behind m by s line (Map va pa len prot) p runs = ap (λ (r : Bool). if r then record s { book = book_after m s.book (is_lacking m by s line (Map va pa len prot)) (Map va pa len prot) } else s) runs
 plain_behind m by s line (Unmap va len) p runs = ap (λ (r : Bool). if r then record s { book = book_after m s.book (is_lacking m by s line (Unmap va len)) (Unmap va len) } else s) runs
@@ -73,7 +68,7 @@ plain_behind m by s line With p runs = absurd (false≢true p)
 plain_behind m by s line End p runs = absurd (false≢true p)
 
 pub goes_plain : (m : Machine) (by : Decided) (b b' : Book) (c : Command) (cs : List Command) (a : Answer) (lacking : Bool) (old new : List Reply) →
-    ((forks : List Opened) → is_lacking m by (in_forks b forks) c.line c.what ≡ lacking) → is_plain c.what ≡ true →
+    ((forks : List Opened) → is_lacking m by (in_forks b forks) c.line c.what ≡ lacking) → is_call c.what ≡ true →
     answer_to m b lacking c.what ≡ Some a → b' ≡ book_after m b lacking c.what → new ≡ old ++ record { line = c.line; answer = a } ∷ [] →
     Goes m by b b' (c ∷ cs) cs old new
 goes_plain m by b b' c cs a lacking old new decides plain answered after put =
@@ -143,15 +138,10 @@ skips m by b tops fs (c ∷ cs) h closed =
       ap (λ (s : State). state_after m by s cs) next.3 ∙ later.1,
     )
 
--- The flat list of a fork and what follows it.
-abbrev pub fork_list : (line at middle last : ℕ) → (left right rest : List Command) → List Command
-fork_list line at middle last left right rest =
-    record { line = line; what = Fork at } ∷ (left ++ record { line = middle; what = With } ∷ (right ++ record { line = last; what = End } ∷ rest))
-
 pub goes_past : (m : Machine) (by : Decided) (b : Book) (line at middle last : ℕ) (left right rest : List Command) (a : CutRefusal) (old new : List Reply) →
     cut_refusal m.layout b at ≡ Some a → AreClosed 0 left → AreClosed 0 right →
     new ≡ old ++ record { line = line; answer = answer.Fork (fork_answer m b at) } ∷ [] →
-    Goes m by b b (fork_list line at middle last left right rest) rest old new
+    Goes m by b b (fork_lines line at middle last left right rest) rest old new
 goes_past m by b line at middle last left right rest a old new refused cl cr put =
     let fork : Reply = record { line = line; answer = answer.Fork (fork_answer m b at) } in
     let skipping : (fs : List Opened) → State = λ fs. in_forks b (Refused ∷ fs) in
@@ -207,7 +197,7 @@ pub goes_through : (m : Machine) (by : Decided) (b bl br : Book) (line at middle
     one ≡ old ++ record { line = line; answer = answer.Fork (fork_answer m b at) } ∷ [] →
     Goes m by (spanning b b.first (page_under m.layout at)) bl left [] one two →
     Goes m by (spanning bl (page_under m.layout at) (span_end b)) br right [] two new →
-    Goes m by b (spanning br b.first (span_end b)) (fork_list line at middle last left right rest) rest old new
+    Goes m by b (spanning br b.first (span_end b)) (fork_lines line at middle last left right rest) rest old new
 goes_through m by b bl br line at middle last left right rest old one two new admitted put gl gr =
     let inner : (fs : List Opened) → List Opened = λ fs. Cut b.first (page_under m.layout at) (span_end b) ∷ fs in
     let opened : (fs : List Opened) → is_running fs ≡ true → at_fork m (in_forks b fs) at ≡ in_forks (spanning b b.first (page_under m.layout at)) (Cut b.first (page_under m.layout at) (span_end b) ∷ fs) =
