@@ -30,7 +30,7 @@ use Rattle.pt_laws.specs.OneText.{is_call}
 use Rattle.pt_laws.proofs.ForkRuns.{goes_on, goes_plain, goes_past, goes_through}
 use Rattle.pt_laws.proofs.Same.{cut_inside}
 use Rattle.pt_forks.specs.Places.{Place, StaysIn, account_says}
-use Rattle.pt_forks.specs.Running.{IsOneBody, Comes, HasPassed, HasRun}
+use Rattle.pt_forks.specs.Running.{AreTold, IsOneBody, Comes, HasPassed, HasRun}
 use Rattle.pt_forks.proofs.Bodies.{FrontFork}
 
 abbrev none : Command
@@ -223,3 +223,8 @@ comes_on p q r cs ds es old mid new stays g h =
 
 pub stays_on : (p q r : Place) → StaysIn p q → StaysIn q r → StaysIn p r
 stays_on p q r s t = record { machine = t.machine ∙ s.machine; cuts = t.cuts ∙ s.cuts }
+
+-- one told reply more
+pub told_more : (IsTold : Answer → Type 0) (rs : List Reply) (r : Reply) → IsTold r.answer → AreTold IsTold rs → AreTold IsTold (rs ++ r ∷ [])
+told_more IsTold [] r h told = (h, tt)
+told_more IsTold (x ∷ rs) r h told = (told.0, told_more IsTold rs r h told.1)

@@ -2,6 +2,7 @@
 use Rattle.std.specs.Prelude.{◌≡◌, ℕ, ◌+◌, ◌≤◌, Bool, List, [], ◌∷◌, length, drop, find, None}
 use Rattle.pt_model.specs.declared.command.Command.{Command}
 use Rattle.pt_model.specs.declared.command.What.TheVariants.{Fork}
+use Rattle.pt_model.specs.declared.reply.Answer.{Answer}
 use Rattle.pt_model.specs.declared.reply.Reply.{Reply}
 use Rattle.pt_model.specs.Pages.{page_under}
 use Rattle.pt_model.specs.Book.{Book, span_end}
@@ -45,3 +46,12 @@ pub record HasRun (p q : Place) (at : ℕ) (side : Side) (commands : List Comman
   pub goes : Goes p.machine ByAccount (side_book p at side) inner commands [] old new
   pub widened : q.book ≡ spanning inner p.book.first (span_end p.book)
   pub uncut : find (crosses (page_under p.machine.layout at)) inner.blocks ≡ None
+
+-- each reply has an answer that has a text
+abbrev pub AreTold : (Answer → Type 0) → List Reply → Type 0
+AreTold IsTold [] = Unit {0}
+AreTold IsTold (r ∷ rs) = IsTold r.answer × AreTold IsTold rs
+
+-- and so have the replies that come
+abbrev pub AddsTold : (Answer → Type 0) → (old new : List Reply) → Type 0
+AddsTold IsTold old new = AreTold IsTold old → AreTold IsTold new

@@ -3,7 +3,7 @@
 ghost use Rattle.std.specs.Prelude.{◌≡◌, ◌∷◌, ◌<◌, length, None, IfOk, OnOk};
 ghost use Rattle.pt_model.specs.Cuts.{cut_refusal};
 ghost use Rattle.pt_forks.specs.Places.{StaysIn, cut_by};
-ghost use Rattle.pt_forks.specs.Running.{IsOneBody, IsRun, IsFront, HasPassed, HasRun};
+ghost use Rattle.pt_forks.specs.Running.{AddsTold, IsOneBody, IsRun, IsFront, HasPassed, HasRun};
 
 use crate::owner::Owner;
 use pt_model::{Answer, Command, ForkAnswer, Reply, What};
@@ -22,6 +22,7 @@ pub fn run_part<H: Owner>(
     requires body { IsOneBody commands.now (H.place owner.old).cuts }
     ensures stays { StaysIn (H.place owner.old) (H.place owner.new) }
     ensures run { OnOk result (IsRun (H.place owner.old) (H.place owner.new) commands.now replies.old.items replies.new.items) }
+    ensures told { OnOk result (AddsTold H.told replies.old.items replies.new.items) }
 {
     let mut place: usize = 0;
     while place < commands.len() {
@@ -42,6 +43,7 @@ fn run_first<H: Owner>(
     requires some { 0 < length commands.now }
     ensures stays { StaysIn (H.place owner.old) (H.place owner.new) }
     ensures run { IfOk result (HasPassed (H.place owner.old) (H.place owner.new) commands.now replies.old.items replies.new.items) }
+    ensures told { OnOk result (AddsTold H.told replies.old.items replies.new.items) }
 {
     let command = commands[0];
     if let What::Fork { at } = command.what {
@@ -69,6 +71,7 @@ fn run_fork<H: Owner>(
     requires front { IsFront commands.now line at }
     ensures stays { StaysIn (H.place owner.old) (H.place owner.new) }
     ensures run { IfOk result (HasPassed (H.place owner.old) (H.place owner.new) commands.now replies.old.items replies.new.items) }
+    ensures told { OnOk result (AddsTold H.told replies.old.items replies.new.items) }
 {
     let (middle, last) = branches(commands);
     let answer = owner.cut_at(at);
@@ -105,6 +108,7 @@ fn run_branch<H: Owner>(
     requires body { IsOneBody commands.now (cut_by (H.place owner.old) at ∷ (H.place owner.old).cuts) }
     ensures stays { StaysIn (H.place owner.old) (H.place owner.new) }
     ensures run { OnOk result (HasRun (H.place owner.old) (H.place owner.new) at side commands.now replies.old.items replies.new.items) }
+    ensures told { OnOk result (AddsTold H.told replies.old.items replies.new.items) }
 {
     owner.narrow(at, side);
     let result = run_part(alloc, owner, commands, replies);

@@ -6,9 +6,9 @@ use Rattle.pt_model.specs.Cuts.{cut_refusal}
 use Rattle.pt_model.specs.Run.{Opened}
 use Rattle.pt_script.specs.declared.line.Side.TheVariants.{Left}
 use Rattle.pt_forks.specs.Places.{Place, StaysIn, cut_by}
-use Rattle.pt_forks.specs.Running.{IsOneBody, HasPassed, HasRun}
+use Rattle.pt_forks.specs.Running.{IsOneBody, HasPassed, HasRun, AreTold}
 use Rattle.pt_forks.proofs.Bodies.{found_fork, front_fork}
-use Rattle.pt_forks.proofs.Passing.{passed_plain, first_plain, admitted, again_after, passed_refused, passed_admitted}
+use Rattle.pt_forks.proofs.Passing.{passed_plain, first_plain, admitted, again_after, passed_refused, passed_admitted, told_more}
 use Rattle.pt_forks.proofs.run.+run_part.Goals.{run_fork-in-Forked+in_ok-run_branch+in_ok-run_branch-2, run_fork-in_default}
 use Rattle.pt_forks.proofs.run.+run_part.Goals as goal
 
@@ -18,6 +18,7 @@ run_first-returns g t c = record {
   run = passed_plain _ _ c.args.commands.now _ _ _ c.requires.body c.requires.some
       (first_plain c.args.commands.now _ c.requires.body c.requires.some c.in_default.not-Fork) c.in_ok-answer.ensures.answers c.in_ok-answer.ensures.book
       c.in_ok-push.ensures.items;
+  told = λ h. subst (AreTold g.H.Owner.told) (sym c.in_ok-push.ensures.items) (told_more g.H.Owner.told _ _ c.in_ok-answer.ensures.told h);
 }
 
 pub run_fork-branches-middle-requires : goal.run_fork-branches-middle-requires
@@ -91,4 +92,14 @@ run_fork-returns-clause-run g t c =
           rw (w.owner-is, w.replies-is)
           (subst (λ (x : Place). HasPassed p x c.args.commands.now c.args.replies.now.items c.push.new.self.items (c.branches-middle.result.1 + 1)) (sym c.cut_at-answer.ensures.stays)
           (passed_refused p c.args.commands.now c.args.line c.args.at _ _ _ _ f (λ e. w.in_default.not-Forked (c.cut_at-answer.ensures.answers ∙ e)) put))
+    ]
+
+pub run_fork-returns-clause-told : goal.run_fork-returns-clause-told
+run_fork-returns-clause-told g t c =
+    let put : AreTold g.H.Owner.told c.args.replies.now.items → AreTold g.H.Owner.told c.push.new.self.items =
+    λ h. subst (AreTold g.H.Owner.told) (sym c.in_ok-push.ensures.items) (told_more g.H.Owner.told _ _ c.cut_at-answer.ensures.told h) in
+    elim c.match-answer.branch [
+      | run_fork-in-Forked+in_ok-run_branch+in_ok-run_branch-2 w ↦
+          rw (w.replies-is) (λ h. w.in_ok-run_branch-2.ensures.told (w.in_ok-run_branch.ensures.told (put h)))
+      | run_fork-in_default w ↦ rw (w.replies-is) put
     ]

@@ -1,6 +1,6 @@
 use Rattle.std.proofs.Common.{length, drop, ◌-◌, ◌+◌, ◌*◌, ◌≤◌}
 use Rattle.pt_forks.specs.Places.{StaysIn}
-use Rattle.pt_forks.specs.Running.{Comes, IsOneBody}
+use Rattle.pt_forks.specs.Running.{AddsTold, Comes, IsOneBody}
 use Rattle.pt_forks.proofs.run.+run_part.Given as goal
 
 abbrev pub decreases-run_part : goal.decreases-run_part
@@ -21,6 +21,7 @@ invariant-run_part-loop-place g l =
     (l.place ≤ length l.commands) × StaysIn (g.H.Owner.place l.initial.owner) (g.H.Owner.place l.owner)
     × IsOneBody (drop l.place l.commands) (g.H.Owner.place l.owner).cuts
     × Comes (g.H.Owner.place l.initial.owner) (g.H.Owner.place l.owner) l.commands (drop l.place l.commands) l.initial.replies.items l.replies.items
+    × AddsTold g.H.Owner.told l.initial.replies.items l.replies.items
 
 abbrev pub decreases-run_part-loop-place : goal.decreases-run_part-loop-place
 decreases-run_part-loop-place g l = length l.commands - l.place
