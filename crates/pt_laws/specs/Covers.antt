@@ -34,18 +34,21 @@ pub record Stand : Type 0 where
 
 -- the positions that a map needs and that the book doesn't have
 abbrev pub lacking_at : Machine → Book → (va pa len : ℕ) → Prot → List Position
-lacking_at m b va pa len prot = missing m.layout m.levels b (page_under m.layout va) (len / 2 ^ m.layout.granule) (pa / 2 ^ m.layout.granule) prot
+lacking_at m b va pa len prot =
+    missing m.layout m.levels b (page_under m.layout va) (len / 2 ^ m.layout.granule) (pa / 2 ^ m.layout.granule) prot
 
 -- the tables of the book that lie in a block of a map's tiling
 abbrev pub replaced : Machine → Book → (va pa len : ℕ) → Prot → List Position
 replaced m b va pa len prot =
     filter
-    (λ p. list_any (λ x. table_lies_in m.layout x.first (end_of x) p) (tiling m.layout prot (page_under m.layout va) (pa / 2 ^ m.layout.granule) (len / 2 ^ m.layout.granule)))
+    (λ p. list_any (λ x. table_lies_in m.layout x.first (end_of x) p)
+    (tiling m.layout prot (page_under m.layout va) (pa / 2 ^ m.layout.granule) (len / 2 ^ m.layout.granule)))
     b.tables
 
 -- the tables of the book that lie in an unmapped range
 abbrev pub cleared : Machine → Book → (va len : ℕ) → List Position
-cleared m b va len = filter (λ p. table_lies_in m.layout (page_under m.layout va) (page_under m.layout va + len / 2 ^ m.layout.granule) p) b.tables
+cleared m b va len =
+    filter (λ p. table_lies_in m.layout (page_under m.layout va) (page_under m.layout va + len / 2 ^ m.layout.granule) p) b.tables
 
 -- A map at Ok: the purse is the old one and the frames drawn and unlinked, without those linked. A frame was unlinked for
 -- each table that the book loses, and linked for positions that it lacked, at most one more than all frames.
@@ -114,11 +117,15 @@ pub record IsDealt (m : Machine) (left : List Command) (held : ℕ) (l r : Stand
 pub data Runs (m : Machine) : List Command → (s s' : Stand) → List Reply → Type 0 where
   nothing : (s : Stand) → Runs m [] s s []
   call : (line : ℕ) (what : What) (cs : List Command) (s s' s'' : Stand) (a : Answer) (rs : List Reply) →
-      Leaves m what s s' a → Runs m cs s' s'' rs → Runs m (record { line = line; what = what } ∷ cs) s s'' (record { line = line; answer = a } ∷ rs)
+      Leaves m what s s' a → Runs m cs s' s'' rs →
+      Runs m (record { line = line; what = what } ∷ cs) s s'' (record { line = line; answer = a } ∷ rs)
   past : (line at middle last : ℕ) (left right cs : List Command) (s s' s'' : Stand) (a : ForkAnswer) (rs : List Reply) →
-      Stays s s' → Runs m cs s' s'' rs → Runs m (fork_lines line at middle last left right cs) s s'' (record { line = line; answer = answer.Fork a } ∷ rs)
-  fork : (line at middle last : ℕ) (left right cs : List Command) (s l l' r r' j s'' : Stand) (drawn : ℕ) (a : ForkAnswer) (ls rs qs : List Reply) →
-      IsDealt m left (drawn + s.purse) l r → Runs m left l l' ls → Runs m right r r' rs → j.purse ≡ l'.purse + r'.purse → Runs m cs j s'' qs →
+      Stays s s' → Runs m cs s' s'' rs →
+      Runs m (fork_lines line at middle last left right cs) s s'' (record { line = line; answer = answer.Fork a } ∷ rs)
+  fork : (line at middle last : ℕ) (left right cs : List Command) (s l l' r r' j s'' : Stand) (drawn : ℕ) (a : ForkAnswer)
+      (ls rs qs : List Reply) →
+      IsDealt m left (drawn + s.purse) l r → Runs m left l l' ls → Runs m right r r' rs → j.purse ≡ l'.purse + r'.purse →
+      Runs m cs j s'' qs →
       Runs m (fork_lines line at middle last left right cs) s s'' (record { line = line; answer = answer.Fork a } ∷ (ls ++ (rs ++ qs)))
 
 -- The two invariants, of a run that began with `start` frames in the purse and has come through the commands `done`.

@@ -29,7 +29,8 @@ abbrev pub right_done : Machine → Decided → Book → List Opened → (at : �
 right_done m by b forks at left right = state_after m by (in_right m by b forks at left) right
 
 -- The branches of a fork, run on the two parts, and run in turn.
-pub record ComeTogether (m : Machine) (by : Decided) (lines : ℕ → Bool) (b : Book) (forks : List Opened) (at : ℕ) (left right : List Command) : Type 0 where
+pub record ComeTogether (m : Machine) (by : Decided) (lines : ℕ →
+    Bool) (b : Book) (forks : List Opened) (at : ℕ) (left right : List Command) : Type 0 where
   pub left_replies : replies_from m by (in_left m b forks at) left ≡ replies_from m (ByLines lines) (left_part m b at) left
   pub right_replies : replies_from m by (in_right m by b forks at left) right ≡ replies_from m (ByLines lines) (right_part m b at) right
   pub book : at_end (right_done m by b forks at left right).book (right_done m by b forks at left right).forks

@@ -17,7 +17,9 @@ use Rattle.pt_model.specs.Cuts.{cut_refusal}
 abbrev pub needed_by : Machine → What → List Position
 needed_by m (Map va pa len prot) = elim (map_refusal m.layout (new_book m.layout m.levels) va pa len) [
   | Some refusal ↦ []
-  | None ↦ all_needed m.layout m.levels (tiling m.layout prot (page_under m.layout va) (pa / 2 ^ m.layout.granule) (len / 2 ^ m.layout.granule))
+  | None ↦
+      all_needed m.layout m.levels
+      (tiling m.layout prot (page_under m.layout va) (pa / 2 ^ m.layout.granule) (len / 2 ^ m.layout.granule))
 ]
 needed_by m _ = []
 
@@ -45,7 +47,8 @@ share_at m book = m.frames - linked_count m.levels book
 -- the lines of a fork and what follows it
 abbrev pub fork_lines : (line at middle last : ℕ) → (left right rest : List Command) → List Command
 fork_lines line at middle last left right rest =
-    record { line = line; what = Fork at } ∷ (left ++ (record { line = middle; what = With } ∷ (right ++ (record { line = last; what = End } ∷ rest))))
+    record { line = line; what = Fork at }
+    ∷ (left ++ (record { line = middle; what = With } ∷ (right ++ (record { line = last; what = End } ∷ rest))))
 
 -- An outermost fork of the commands, where the run comes to it and admits it: the commands before it, its line and
 -- byte, its branches, and what follows.
@@ -118,8 +121,10 @@ stands_behind m lines before = state_after m (InForks lines) (at_start (new_book
 
 -- so no map is short by the account, outside forks or inside, and no fork is short
 pub record NothingIsShort (m : Machine) (body : List Command) (lines : ℕ → Bool) : Type 0 where
-  pub maps : (before rest : List Command) (line va pa len : ℕ) (prot : Prot) → body ≡ before ++ record { line = line; what = Map va pa len prot } ∷ rest →
-      map_refusal m.layout (stands_behind m lines before).book va pa len ≡ None → lacks_frames m (stands_behind m lines before).book va pa len prot ≡ false
+  pub maps : (before rest : List Command) (line va pa len : ℕ) (prot : Prot) →
+      body ≡ before ++ record { line = line; what = Map va pa len prot } ∷ rest →
+      map_refusal m.layout (stands_behind m lines before).book va pa len ≡ None →
+      lacks_frames m (stands_behind m lines before).book va pa len prot ≡ false
   pub forks : (before left right rest : List Command) (line at middle last : ℕ) →
       body ≡ before ++ fork_lines line at middle last left right rest →
       ¬ is_short_fork m (stands_behind m lines before).book left right

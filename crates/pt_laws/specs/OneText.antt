@@ -58,7 +58,8 @@ PrintedUncovered =
 -- no outermost fork is short
 abbrev pub HasNoShortFork : Machine → Decided → State → List Command → Type 0
 HasNoShortFork m by start cs =
-    (before left right rest : List Command) (line middle last at : ℕ) → IsOutermost m by start cs before left right rest line middle last at →
+    (before left right rest : List Command) (line middle last at : ℕ) →
+    IsOutermost m by start cs before left right rest line middle last at →
     ¬ is_short_fork m (state_after m by start before).book left right
 
 pub record IsOneText (m : Machine) (body : List Command) (tail : List Ask) (lines : ℕ → Bool) : Type 0 where
@@ -89,7 +90,8 @@ HoldIsAmple =
 -- where no outermost fork is short in the run with the lines that were printed, no line was, and both runs are one
 abbrev pub SharedIsPlain : Type 0
 SharedIsPlain =
-    (m : Machine) (hold : ℕ) (body : List Command) (tail : List Ask) (s' : Stand) (all inside : List Reply) → IsTrue (is_size m.layout 0) → IsNested body →
+    (m : Machine) (hold : ℕ) (body : List Command) (tail : List Ask) (s' : Stand) (all inside : List Reply) →
+    IsTrue (is_size m.layout 0) → IsNested body →
     RunsWhole m (InForks (lacked_lines inside)) body (record { book = new_book m.layout m.levels; purse = hold }) s' all inside →
     HasNoShortFork m (InForks (lacked_lines inside)) (new_start m) body →
     IsOneText m body tail (lacked_lines inside)
