@@ -1,4 +1,4 @@
--- The calls on tags: take, place and unplace.
+-- The calls on tags: take, place, unplace, and the freeing of one frame.
 use Rattle.std.proofs.Common.{◌≡◌, ◌≢◌, inl, inr, ℕ, suc, Bool, true, false, ◌+◌, ◌-◌, ◌%◌, ◌^◌, ◌<◌, ◌≤◌, List, [], ◌∷◌, length, refl, ap, sym, ◌∙◌, subst, arith, eq-eqb, ⊎_elim, ◌++◌}
 use Rattle.std.specs.Prelude.{Option, None, Some, ◌==◌, slice_index, slice_set, if◌then◌else◌}
 use Rattle.std.proofs.Math.Pow.{pow_mono}
@@ -8,23 +8,23 @@ use Rattle.pt_model.specs.declared.position.Position.{Position}
 use Rattle.pt_model.specs.Layout.{Layout}
 use Rattle.pt_model.specs.Tables.{IsPosition}
 use Rattle.pt_model.specs.Words.{frame_limit, placed_at, placed_word, tag}
-use Rattle.pt_model.proofs.Places.{root_after_tag, tag_else}
+use Rattle.pt_model.proofs.Places.{root_after_tag, tag_else, tag_same}
 use Rattle.pt_format.specs.Laws.{IsLayout}
 use Rattle.pt_view.specs.declared.view.View.{View}
 use Rattle.pt_view.specs.declared.view.Prepared.{Prepared}
 use Rattle.pt_view.specs.Lists.{IsIn}
 use Rattle.pt_view.specs.Views.{Aside}
-use Rattle.pt_view.specs.Calls.{FillsSpace, FitsSpace, HasEveryFrame, IsPlaced, IsTaken, IsUnplaced, prepared_count}
+use Rattle.pt_view.specs.Calls.{FillsSpace, FitsSpace, HasEveryFrame, IsFreed, IsPlaced, IsTaken, IsUnplaced, prepared_count}
 use Rattle.pt_rule.specs.Tags.{Chained, IsEnd, first_or, held_word}
 use Rattle.pt_rule.specs.Holds.{Holds}
 use Rattle.pt_rule.specs.Lawful.{Lawful}
-use Rattle.pt_rule.specs.Kinds.{after, place, rest_of, take, unplace}
+use Rattle.pt_rule.specs.Kinds.{after, free, place, rest_of, take, unplace, without}
 use Rattle.pt_rule.specs.Meets.{Always}
 use Rattle.pt_rule.proofs.Laws.{views_hold}
 use Rattle.pt_rule.proofs.TagFacts.{held_nonzero, placed_some, prepared_by}
-use Rattle.pt_view.proofs.Members.{in_here, in_more}
+use Rattle.pt_view.proofs.Members.{in_cases, in_here, in_more}
 use Rattle.pt_plain.specs.Owner.{Fields, IsOwner, aside_of, prepared_at, span_view, whole_view}
-use Rattle.pt_plain.proofs.Carried.{placed_on, taken_on, unplaced_on}
+use Rattle.pt_plain.proofs.Carried.{freed_on, placed_on, taken_on, unplaced_on}
 use Rattle.pt_plain.proofs.Laws.{Laws}
 use Rattle.pt_plain.proofs.Matches.{path_kept, prepared_kept, prepared_none, purse_more}
 use Rattle.pt_plain.proofs.Owners.{Does, aside_none, does, given, live, matches, shown, span_whole, whole}
@@ -47,7 +47,8 @@ some_first (x ∷ xs) some e = let w : ⊥ = cc in w
 pub tags_before : (words : List ℕ) (frame word : ℕ) → tag words frame ≢ 0 → (g : ℕ) → tag (slice_set words (1 + frame) word) g ≢ 0 → tag words g ≢ 0
 tags_before words frame word old g some = dite (ℕ_discrete g frame) (λ e z. old (sym (ap (tag words) e) ∙ z)) (λ ne z. some (tag_else words frame word g ne ∙ z))
 
--- What the calls do: a frame is the purse's first, the purse's first frame is prepared, and the prepared one is put back.
+-- What the calls do: a frame is the purse's first, the purse's first frame is prepared, the prepared one is put back,
+-- and the first one is freed.
 module _ {f : Layout} {o : Fields} (own : IsOwner f o) (frame : ℕ) (words : List ℕ) where
   abbrev pub Taken : Type 0
   Taken = Does f o (record o { words = words; head = Some frame; held = o.held + 1 }) (λ v w. IsTaken ⊥ frame v true w)
@@ -57,6 +58,9 @@ module _ {f : Layout} {o : Fields} (own : IsOwner f o) (frame : ℕ) (words : Li
 
   abbrev pub Unplaced : Type 0
   Unplaced = Does f o (record o { words = words; head = Some frame; held = o.held + 1; prepared = None }) (λ v w. IsUnplaced ⊥ v w)
+
+  abbrev pub Freed : (next : Option ℕ) → Type 0
+  Freed next = Does f o (record o { words = words; head = next; held = o.held - 1 }) (λ v w. IsFreed ⊥ (frame ∷ []) v w)
 
 module _ {f : Layout} (laws : Laws f) {o : Fields} (own : IsOwner f o) where
   abbrev v : View
@@ -199,6 +203,38 @@ module _ {f : Layout} (laws : Laws f) {o : Fields} (own : IsOwner f o) where
           })
           (noted_after own placed_u r.busy (λ g lt some. tags_before o.words frame (placed_word p) old g (λ z. some (ap (λ (ws : List ℕ). tag ws g) stores ∙ z))) (λ p h. h) (λ p h. inl h) refl)
           (λ v w. IsPlaced ⊥ v p w) (λ a. placed_on a r)
+
+    -- Freeing the first frame of the purse.
+
+    only_frame : (g : ℕ) → IsIn (frame ∷ []) g → g ≡ frame
+    only_frame g h = ⊎_elim (λ (e : g ≡ frame). e) (λ (none : IsIn [] g). absurd (omega arith)) (in_cases g frame [] h)
+
+    pub freed : (words : List ℕ) (next : Option ℕ) → words ≡ slice_set o.words (1 + frame) 0 → first_or None rest ≡ next → Freed own frame words next
+    freed words next stores next_is =
+        let u : View = record v { purse = rest_of v.purse; busy = without frame v.busy } in
+        let r : IsFreed Always (frame ∷ []) v u = says laws own (free frame) purse_is in
+        let m = matches own in
+        let less : length v.purse ≡ suc (length rest) = ap length purse_is.1 in
+        let same : length (rest_of v.purse) ≡ length rest = ap (λ (xs : List ℕ). length (rest_of xs)) purse_is.1 in
+        let h = purse_length in
+        let root = ap (λ (z : ℕ). z % 8) (ap (λ (ws : List ℕ). slice_index ws 0) stores ∙ root_after_tag o.words frame 0) in
+        let zero_now : tag words frame ≡ 0 = ap (λ (ws : List ℕ). tag ws frame) stores ∙ tag_same f o.frames o.words frame 0 own.lawful.sizes.words_are head_within in
+        read_back laws own u (record o { words = words; head = next; held = o.held - 1 }) (stored laws own (free frame) purse_is refl stores) r.range own.span
+        (record {
+          purse = record { first_is = ap (λ (xs : List ℕ). first_or None (rest_of xs)) purse_is.1 ∙ next_is; held_is = omega arith; end = m.purse.end };
+          path = path_kept refl root m.path;
+          prepared = prepared_kept refl m.prepared;
+        })
+        (record {
+          within = λ g h. busy_within own g ((r.busy g).0 h).1;
+          busy = λ g lt some. (r.busy g).1 (
+            λ (gone : IsIn (frame ∷ []) g). some (ap (tag words) (only_frame g gone) ∙ zero_now),
+            busy_here own g lt (λ z. dite (ℕ_discrete g frame) (λ e. some (ap (tag words) e ∙ zero_now))
+                (λ ne. some (ap (λ (ws : List ℕ). tag ws g) stores ∙ tag_else o.words frame 0 g ne ∙ z))),
+          );
+          known = known_after own u (λ p h. h) (λ p h. inl h) refl;
+        })
+        (λ v w. IsFreed ⊥ (frame ∷ []) v w) (λ a. freed_on a r)
 
   -- Unplace.
 

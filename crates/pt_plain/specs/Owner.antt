@@ -2,7 +2,6 @@
 -- view of its span, and what is set aside.
 use Rattle.std.specs.Prelude.{◌≡◌, ℕ, zero, suc, ◌+◌, ◌-◌, ◌*◌, ◌/◌, ◌≤◌, ◌==◌, List, [], ◌∷◌, ◌++◌, length, map, filter, not, ◌&&◌, Option, Some, None, slice_index, slice_set, if◌then◌else◌}
 use Rattle.pt_model.specs.declared.position.Position.{Position}
-use Rattle.pt_model.specs.declared.block.Block.{Block}
 use Rattle.pt_model.specs.Layout.{Layout, input_pages}
 use Rattle.pt_model.specs.Sets.{one_if}
 use Rattle.pt_model.specs.Tables.{levels_between, spine_position, starting_top}
@@ -178,7 +177,3 @@ pub record IsOpened (f : Layout) (n l hold : ℕ) (v : View) : Type 0 where
   pub tables : v.tables ≡ []
   pub top : v.top ≡ starting_top l
   pub purse : v.purse ≡ counting 1 hold
-
--- some blocks are those of a view at rest
-abbrev pub Rests : Layout → View → Type 0
-Rests f v = (blocks : List Block) × IsAtRest f v blocks

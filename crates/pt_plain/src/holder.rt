@@ -1,5 +1,8 @@
 //! The calls of a holder, by plain reads and writes.
 
+ghost use Rattle.std.specs.Prelude.{◌≡◌, ℕ, ◌<◌, [], ◌∷◌, length};
+ghost use Rattle.pt_view.specs.Calls.{IsFreed};
+
 use crate::plain::Plain;
 use crate::words::{
     entry, frame_address, frame_named, held_word, next_in, placed_word, root_level, set_entry,
@@ -8,6 +11,23 @@ use crate::words::{
 use pt_format::Format;
 use pt_num::Span;
 use pt_view::{Holder, Seen, Won};
+
+impl<F: Format> Plain<F> {
+    /// Frees the first frame of the purse.
+    fn free_first(&mut self)
+        requires { 0 < length self.old.view.purse }
+        ensures freed { (frame : ℕ) × IsFreed ⊥ (frame ∷ []) self.old.view self.new.view }
+        ensures aside { self.new.aside ≡ self.old.aside }
+    {
+        let Some(frame) = self.head else {
+            unreachable!()
+        };
+        let next = next_in(tag_of(&self.words, frame));
+        set_tag(&mut self.words, frame, 0);
+        self.head = next;
+        self.held -= 1;
+    }
+}
 
 impl<F: Format> Holder<F> for Plain<F> {
     type Space = ();
@@ -152,6 +172,12 @@ impl<F: Format> Holder<F> for Plain<F> {
         self.head = Some(frame);
         self.held += 1;
         true
+    }
+
+    fn release(&mut self) {
+        for _ in 0..self.held {
+            self.free_first();
+        }
     }
 
     fn purse(&self) -> u32 {

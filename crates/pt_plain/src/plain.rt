@@ -5,7 +5,8 @@ ghost use Rattle.pt_model.specs.Words.{frame_limit, tag};
 ghost use Rattle.pt_rule.specs.Lawful.{Lawful};
 ghost use Rattle.pt_rule.specs.Tags.{first_or};
 ghost use Rattle.pt_rule.specs.Opening.{IsNew, counting};
-ghost use Rattle.pt_plain.specs.Owner.{IsOpened, Rests, none_aside};
+ghost use Rattle.pt_plain.specs.Owner.{IsOpened, none_aside};
+ghost use Rattle.pt_view.specs.Views.{Rests};
 ghost use Rattle.pt_plain.specs.Chains.{IsChain, IsKept};
 
 use crate::words::{held_word, placed_word, set_tag, word_count};

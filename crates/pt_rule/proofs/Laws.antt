@@ -4,7 +4,7 @@ use Rattle.atomic_table.proofs.Lists.{set_else}
 use Rattle.pt_rule.specs.Cuts.{joined}
 use Rattle.pt_rule.specs.Kinds.{retrace}
 use Rattle.pt_rule.specs.Laws.{BooksAreLawful, FrontsKeep, JoinsKeep, NewIsLawful, SplitsKeep, StepsKeep, ViewsNote, ViewsHold, WholeIsAlone, WholeIsCounted}
-use Rattle.pt_rule.specs.Meets.{GrowMeets, StepsMeet, UnlinkMeets}
+use Rattle.pt_rule.specs.Meets.{GrowMeets, ReleaseMeets, StepsMeet, UnlinkMeets}
 use Rattle.pt_rule.specs.Union.{WalkIsUnion}
 use Rattle.pt_rule.specs.WholeView.{WholeIsRead}
 use Rattle.pt_rule.proofs.AloneKept as whole
@@ -38,6 +38,9 @@ unlink_meets = calls.unlink_meets
 
 pub grow_meets : GrowMeets
 grow_meets = calls.grow_meets
+
+pub release_meets : ReleaseMeets
+release_meets = calls.release_meets
 
 pub views_note : ViewsNote
 views_note = noted.views_note

@@ -12,7 +12,7 @@
 ghost use Rattle.pt_rule.specs.Laws.{NewIsLawful, StepsKeep, FrontsKeep, ViewsNote, SplitsKeep, JoinsKeep, ViewsHold, WholeIsAlone, WholeIsCounted, BooksAreLawful};
 ghost use Rattle.pt_rule.specs.WholeView.{WholeIsRead};
 ghost use Rattle.pt_rule.specs.Union.{WalkIsUnion};
-ghost use Rattle.pt_rule.specs.Meets.{StepsMeet, UnlinkMeets, GrowMeets};
+ghost use Rattle.pt_rule.specs.Meets.{StepsMeet, UnlinkMeets, GrowMeets, ReleaseMeets};
 
 /// A new space is lawful, with the one view of the whole space.
 pub fn new_is_lawful()
@@ -28,12 +28,13 @@ pub fn steps_keep()
 {}
 
 /// What a holder's calls are: a step of each kind, where the number found tells what its kind says, does to the view
-/// what the trait's call that makes it says. `unlink` and `grow` are several steps in a row, each of which may be made
-/// after those before it.
+/// what the trait's call that makes it says. `unlink`, `grow` and `release` are several steps in a row, each of which may
+/// be made after those before it.
 pub fn calls_meet()
     ensures steps { StepsMeet }
     ensures unlink { UnlinkMeets }
     ensures grow { GrowMeets }
+    ensures release { ReleaseMeets }
 {}
 
 /// What is said of a seat's step holds too of a step of a holder that has only the front of its seat's path.

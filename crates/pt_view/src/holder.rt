@@ -5,13 +5,13 @@ ghost use Rattle.pt_model.specs.declared.position.Position.{Position};
 ghost use Rattle.pt_model.specs.Tables.{IsPosition};
 ghost use Rattle.pt_view.specs.declared.view.View.{View};
 ghost use Rattle.pt_model.specs.Layout.{input_pages};
-ghost use Rattle.pt_view.specs.Views.{Aside, Stays, IsLawfulAtRest};
+ghost use Rattle.pt_view.specs.Views.{Aside, Stays, IsLawfulAtRest, Rests};
 ghost use Rattle.pt_view.specs.Calls.{MeetsEntry, Rooted, Went, left};
 ghost use Rattle.pt_view.specs.Calls.{IsPrepared, IsPlaced, IsUnplaced, MayInstall, IsInstalled, InstallFinds, MayGrow, IsGrown};
 ghost use Rattle.pt_view.specs.Calls.{MayWrite, IsWritten, MayWriteRun, IsWrittenRun};
 ghost use Rattle.pt_view.specs.Calls.{MayClear, IsCleared, MayUnlink, IsUnlinked, UnlinkFinds};
 ghost use Rattle.pt_view.specs.Runs.{MayClearRun, IsClearedRun};
-ghost use Rattle.pt_view.specs.Calls.{IsTaken, HasEveryFrame, FillsSpace, FitsSpace};
+ghost use Rattle.pt_view.specs.Calls.{IsTaken, IsReleased, HasEveryFrame, FillsSpace, FitsSpace};
 
 use pt_format::Format;
 use pt_num::Span;
@@ -144,6 +144,12 @@ pub trait Holder<F: Format> {
         ensures stays { Stays space aside alone self.old self.new }
         ensures taken { IsTaken tells frame (view self.old) result (view self.new) }
         ensures all { alone self.old → HasEveryFrame (view self.new) → FillsSpace (view self.new) (aside self.new) };
+
+    /// Frees every frame of the purse, first to last.
+    fn release(&mut self)
+        requires { Rests F.layout (view self.old) }
+        ensures stays { Stays space aside alone self.old self.new }
+        ensures released { IsReleased tells (view self.old) (view self.new) };
 
     /// The number of frames in the purse.
     fn purse(&self) -> u32
