@@ -7,6 +7,7 @@ use Rattle.pt_rule.specs.Laws.{BooksAreLawful, FrontsKeep, JoinsKeep, NewIsLawfu
 use Rattle.pt_rule.specs.Meets.{GrowMeets, ReleaseMeets, StepsMeet, UnlinkMeets}
 use Rattle.pt_rule.specs.Union.{WalkIsUnion}
 use Rattle.pt_rule.specs.WholeView.{WholeIsRead}
+use Rattle.pt_rule.specs.WholeCounts.{EntriesAreRead, PiecesAreAdded, TagsAreCounted}
 use Rattle.pt_rule.proofs.AloneKept as whole
 use Rattle.pt_rule.proofs.CallsMeet as calls
 use Rattle.pt_rule.proofs.CountKept as frames
@@ -17,6 +18,7 @@ use Rattle.pt_rule.proofs.JoinKept as parts
 use Rattle.pt_rule.proofs.StepsKept as steps
 use Rattle.pt_rule.proofs.OpeningKept as opening
 use Rattle.pt_rule.proofs.ReadWhole as read
+use Rattle.pt_rule.proofs.ReadEntries as entries
 use Rattle.pt_rule.proofs.RestingBook as books
 use Rattle.pt_rule.proofs.SplitKept as halves
 use Rattle.pt_rule.proofs.WalkUnion as walk
@@ -63,6 +65,15 @@ whole_is_counted = frames.counted
 
 pub whole_is_read : WholeIsRead
 whole_is_read = read.whole_read
+
+pub entries_are_read : EntriesAreRead
+entries_are_read = entries.entries_are_read
+
+pub pieces_are_added : PiecesAreAdded
+pieces_are_added = entries.pieces_are_added
+
+pub tags_are_counted : TagsAreCounted
+tags_are_counted = frames.tags_are_counted
 
 pub books_are_lawful : BooksAreLawful
 books_are_lawful = books.resting
