@@ -12,3 +12,5 @@ mod Leaves
 mod LeftBlocks
 mod WalkTables
 mod WalkSteps
+-- the cut of a span
+mod Crossing
