@@ -7,7 +7,7 @@ use Rattle.pt_rule.specs.Laws.{BooksAreLawful, FrontsKeep, JoinsKeep, NewIsLawfu
 use Rattle.pt_rule.specs.Meets.{GrowMeets, ReleaseMeets, StepsMeet, UnlinkMeets}
 use Rattle.pt_rule.specs.Union.{WalkIsUnion}
 use Rattle.pt_rule.specs.WholeView.{WholeIsRead}
-use Rattle.pt_rule.specs.WholeCounts.{EntriesAreRead, PiecesAreAdded, TagsAreCounted}
+use Rattle.pt_rule.specs.WholeCounts.{CensusIsRead, EntriesAreRead, PiecesAreAdded, ReadingsTell, TagsAreCounted}
 use Rattle.pt_rule.proofs.AloneKept as whole
 use Rattle.pt_rule.proofs.CallsMeet as calls
 use Rattle.pt_rule.proofs.CountKept as frames
@@ -19,6 +19,7 @@ use Rattle.pt_rule.proofs.StepsKept as steps
 use Rattle.pt_rule.proofs.OpeningKept as opening
 use Rattle.pt_rule.proofs.ReadWhole as read
 use Rattle.pt_rule.proofs.ReadEntries as entries
+use Rattle.pt_rule.proofs.CensusRead as census
 use Rattle.pt_rule.proofs.RestingBook as books
 use Rattle.pt_rule.proofs.SplitKept as halves
 use Rattle.pt_rule.proofs.WalkUnion as walk
@@ -71,6 +72,12 @@ entries_are_read = entries.entries_are_read
 
 pub pieces_are_added : PiecesAreAdded
 pieces_are_added = entries.pieces_are_added
+
+pub readings_tell : ReadingsTell
+readings_tell = census.readings_tell
+
+pub census_is_read : CensusIsRead
+census_is_read = census.census_is_read
 
 pub tags_are_counted : TagsAreCounted
 tags_are_counted = frames.tags_are_counted

@@ -56,6 +56,7 @@ mod ReadPiece
 mod ReadPieces
 mod ReadWhole
 mod ReadEntries
+mod CensusRead
 mod WalkUnion
 mod LiveViews
 -- Cuts: a path that is cut, a view cut in two, and two views as one.

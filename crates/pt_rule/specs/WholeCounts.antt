@@ -1,19 +1,24 @@
 -- The entries of the words of a view of the whole space, and what is counted of the view from the words alone.
-use Rattle.std.specs.Prelude.{◌≡◌, ℕ, zero, suc, ◌+◌, ◌^◌, ◌<◌, List, [], ◌∷◌, Option, None, Some, IsTrue, if◌then◌else◌}
+use Rattle.std.specs.Prelude.{◌≡◌, ℕ, zero, suc, ◌+◌, ◌%◌, ◌^◌, ◌<◌, ◌≤◌, ◌==◌, List, [], ◌∷◌, length, Option, None, Some, IsTrue, if◌then◌else◌}
 use mathlib.Core.Option.{some}
 use lib.ListN.{get_elem?}
 use Rattle.pt_model.specs.declared.position.Position.{Position}
-use Rattle.pt_model.specs.Layout.{Layout, input_pages}
+use Rattle.pt_model.specs.declared.block.Block.{Block}
+use Rattle.pt_model.specs.Layout.{Layout, input_pages, pages_of_entry}
+use Rattle.pt_model.specs.Unmap.{pages_in}
 use Rattle.pt_model.specs.Tables.{child_at}
 use Rattle.pt_model.specs.Sets.{one_if}
 use Rattle.pt_model.specs.Words.{tag, placed_at, entry_of, frame_address}
-use Rattle.pt_format.specs.Words.{IsTableLevel}
+use Rattle.pt_format.specs.declared.read.Read.{Read}
+use Rattle.pt_format.specs.declared.read.Read.TheVariants.{Empty, Table, Leaf, Alien}
+use Rattle.pt_format.specs.Reading.{ReadsAs}
+use Rattle.pt_format.specs.Words.{IsTableLevel, words_in}
 use Rattle.pt_format.specs.Laws.{IsLayout, WordsDiffer}
 use Rattle.pt_format.specs.Manual.{StepsAgree}
 use Rattle.pt_view.specs.declared.view.View.{View}
 use Rattle.pt_view.specs.declared.view.Piece.{Piece}
-use Rattle.pt_view.specs.Pieces.{IsLegalPiece, IsOneOf, word_of}
-use Rattle.pt_view.specs.Views.{linked_of}
+use Rattle.pt_view.specs.Pieces.{IsLegalPiece, IsOneOf, level_of, word_of}
+use Rattle.pt_view.specs.Views.{IsAtRest, linked_of}
 use Rattle.pt_view.specs.Calls.{pieces_at}
 use Rattle.pt_rule.specs.Totals.{total}
 use Rattle.pt_rule.specs.Linked.{IsLinkedAt}
@@ -74,3 +79,41 @@ PiecesAreAdded =
     (f : Layout) → IsLayout f → WordsDiffer f → StepsAgree f → (n l : ℕ) (words : List ℕ) (views : List View) (id : ℕ) (v : View) →
     Lawful f n l words views → get_elem? views id ≡ some v → v.count ≡ input_pages f → (number : Piece → ℕ) →
     total number v.pieces ≡ added_in f n (prepared_frame v.prepared) words number n
+
+-- What the word of an entry reads as tells of the piece there: at zero and at a pointer there is none; at a leaf there is one of
+-- the table's level, the first of its block where the entry's number is a multiple of the block's words; none is alien.
+abbrev pub TellsPiece : Layout → (level number : ℕ) → Read → Option Piece → Type 0
+TellsPiece f level number Empty found = found ≡ None
+TellsPiece f level number (Table address) found = found ≡ None
+TellsPiece f level number (Leaf log2 prot) found =
+    (x : Piece) × (found ≡ Some x) × (level_of f x ≡ level) × ((x.part == 0) ≡ (number % words_in f level log2 == 0))
+TellsPiece f level number Alien found = ⊥
+
+abbrev pub ReadingsTell : Type 0
+ReadingsTell =
+    (f : Layout) → IsLayout f → WordsDiffer f → StepsAgree f → (n l : ℕ) (words : List ℕ) (views : List View) (id : ℕ) (v : View) →
+    Lawful f n l words views → get_elem? views id ≡ some v → v.count ≡ input_pages f →
+    (frame number : ℕ) → frame < n → number < 2 ^ f.index → IsTrue (is_linked_in (prepared_frame v.prepared) words frame) → (read : Read) →
+    let p = placed_at (tag words frame) in
+    let word = entry_of f n words frame number in
+    ReadsAs f p.level word read → TellsPiece f p.level number read (piece_in f p number word)
+
+-- 1 for the first piece of each block, and the pages of a piece
+abbrev pub counts_block : Piece → ℕ
+counts_block x = one_if (x.part == 0)
+
+abbrev pub counts_pages : Layout → Piece → ℕ
+counts_pages f x = pages_of_entry f (level_of f x)
+
+-- the census of a view of the whole space at rest, over the words: its linked positions, its blocks and their pages
+pub record IsCounted (f : Layout) (n : ℕ) (words : List ℕ) (v : View) (blocks : List Block) : Type 0 where
+  pub tables : linked_of v ≡ linked_frames_in None words n
+  pub blocks_are : length blocks ≡ added_in f n None words counts_block n
+  pub pages : pages_in blocks ≡ added_in f n None words (counts_pages f) n
+  pub few : pages_in blocks ≤ input_pages f
+
+abbrev pub CensusIsRead : Type 0
+CensusIsRead =
+    (f : Layout) → IsLayout f → WordsDiffer f → StepsAgree f → (n l : ℕ) (words : List ℕ) (views : List View) (id : ℕ) (v : View) →
+    Lawful f n l words views → get_elem? views id ≡ some v → v.count ≡ input_pages f → (blocks : List Block) → IsAtRest f v blocks →
+    IsCounted f n words v blocks

@@ -11,7 +11,7 @@
 
 ghost use Rattle.pt_rule.specs.Laws.{NewIsLawful, StepsKeep, FrontsKeep, ViewsNote, SplitsKeep, JoinsKeep, ViewsHold, WholeIsAlone, WholeIsCounted, BooksAreLawful};
 ghost use Rattle.pt_rule.specs.WholeView.{WholeIsRead};
-ghost use Rattle.pt_rule.specs.WholeCounts.{EntriesAreRead, PiecesAreAdded, TagsAreCounted};
+ghost use Rattle.pt_rule.specs.WholeCounts.{CensusIsRead, EntriesAreRead, PiecesAreAdded, ReadingsTell, TagsAreCounted};
 ghost use Rattle.pt_rule.specs.Union.{WalkIsUnion};
 ghost use Rattle.pt_rule.specs.Meets.{StepsMeet, UnlinkMeets, GrowMeets, ReleaseMeets};
 
@@ -88,9 +88,10 @@ pub fn whole_is_read()
 {}
 
 /// Each entry of a linked frame of a view of the whole space is zero, where nothing stands there, or the word of the one
-/// piece that does, or the pointer to the table that is linked there.
+/// piece that does, or the pointer to the table that is linked there. What it reads as tells of the piece.
 pub fn entries_are_read()
-    ensures { EntriesAreRead }
+    ensures entries { EntriesAreRead }
+    ensures readings { ReadingsTell }
 {}
 
 /// The census of a view of the whole space is a function of the words: the linked frames are as many as its linked
@@ -98,6 +99,7 @@ pub fn entries_are_read()
 pub fn whole_adds_up()
     ensures tags { TagsAreCounted }
     ensures pieces { PiecesAreAdded }
+    ensures census { CensusIsRead }
 {}
 
 /// The manual's walk of the words gives at each address the byte and the permission of the one piece of a view that
