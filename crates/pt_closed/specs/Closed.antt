@@ -1,12 +1,16 @@
--- The words of a closed space, and what is counted over them.
-use Rattle.std.specs.Prelude.{◌≡◌, ℕ, List, [], ◌∷◌, Option}
+-- The words of a closed space, what is counted over them, and what their walk gives.
+use Rattle.std.specs.Prelude.{◌≡◌, ℕ, ◌^◌, ◌<◌, List, [], ◌∷◌, Option, Some, None}
 use Rattle.pt_model.specs.declared.block.Block.{Block}
-use Rattle.pt_model.specs.Layout.{Layout, input_pages}
+use Rattle.pt_model.specs.declared.block.Prot.{Prot}
+use Rattle.pt_model.specs.Layout.{Layout, Reached, at_byte, input_pages, nowhere}
+use Rattle.pt_model.specs.Run.{walk_answer}
+use Rattle.pt_format.specs.Laws.{IsLayout}
+use Rattle.pt_format.specs.Manual.{IsWalk, StepsAgree}
 use Rattle.pt_format.specs.declared.read.Read.{Read}
 use Rattle.pt_format.specs.Reading.{ReadsAs}
 use Rattle.pt_view.specs.declared.view.View.{View}
 use Rattle.pt_view.specs.declared.view.Piece.{Piece}
-use Rattle.pt_view.specs.Views.{IsAtRest}
+use Rattle.pt_view.specs.Views.{IsAtRest, book_of}
 use Rattle.pt_rule.specs.Lawful.{Lawful}
 use Rattle.pt_rule.specs.WholeCounts.{TellsPiece, counts_block, counts_pages, if_any}
 use Rattle.pt_closed.specs.declared.census.Counted.{Counted}
@@ -28,3 +32,14 @@ IsToldBy f level number word found = (read : Read) → ReadsAs f level word read
 pub record CountsPiece (f : Layout) (found : Option Piece) (counted : Counted) : Type 0 where
   pub blocks : counted.blocks ≡ if_any counts_block found
   pub pages : counted.pages ≡ if_any (counts_pages f) found
+
+-- what a walk reaches, by what a book translates an address to
+abbrev pub reached : Option (ℕ × Prot) → Reached
+reached None = nowhere
+reached (Some to) = at_byte to.0 to.1
+
+-- the manual's walk of the words of a closed space gives at each address what its book translates it to
+abbrev pub WalkIsBook : Type 0
+WalkIsBook =
+    (f : Layout) → IsLayout f → StepsAgree f → IsWalk f → (n : ℕ) (words : List ℕ) (closed : IsClosed f n words) (address : ℕ) → address < 2 ^ 64 →
+    f.walk words address ≡ reached (walk_answer f (book_of closed.view closed.blocks) address)
