@@ -2,8 +2,8 @@
 
 use crate::plain::Plain;
 use crate::words::{
-    entry, frame_address, frame_named, held_word, next_in, placed_word, root_level, set_entry,
-    set_root, set_run, set_tag, tag_of, zero_run,
+    entry, frame_address, frame_named, held_word, is_zero_run, next_in, placed_word, root_level,
+    set_entry, set_root, set_run, set_tag, tag_of, taken_upto, zero_run,
 };
 use pt_format::Format;
 use pt_num::Span;
@@ -43,6 +43,11 @@ impl<F: Format> Holder<F> for Plain<F> {
         self.path[level as usize - 1] = frame_named::<F>(F::address_of(level, word));
         self.level = level - 1;
         Seen::Entered
+    }
+
+    fn empty_run(&mut self, first: u32, count: u32) -> bool {
+        let frame = self.path[self.level as usize];
+        is_zero_run::<F>(&self.words, self.frames, frame, first, count)
     }
 
     fn leave(&mut self) {
@@ -145,6 +150,7 @@ impl<F: Format> Holder<F> for Plain<F> {
     }
 
     fn take(&mut self, frame: u32) -> bool {
+        self.taken_below = taken_upto(self.taken_below, frame);
         if tag_of(&self.words, frame) != 0 {
             return false;
         }
@@ -152,6 +158,10 @@ impl<F: Format> Holder<F> for Plain<F> {
         self.head = Some(frame);
         self.held += 1;
         true
+    }
+
+    fn known_taken(&self) -> u32 {
+        self.taken_below
     }
 
     fn purse(&self) -> u32 {
