@@ -7,8 +7,8 @@ ghost use Rattle.pt_format.specs.Words.{GoBy};
 ghost use Rattle.pt_tile.specs.Extents.{IsFirstTo, up_to};
 ghost use Rattle.pt_view.specs.Views.{Stays};
 ghost use Rattle.pt_view.specs.Pieces as pieces;
-ghost use Rattle.pt_map.specs.Stands.{IsEntryExtent};
-ghost use Rattle.pt_map.specs.Filled.{Fills, HasRoom, IsDeeper, MayFill, MayGoInto, MayStoreRun, Spends, SpendsOn, StoresRun, next_table};
+ghost use Rattle.pt_map.specs.Stands.{IsEntryExtent, IsRunOf};
+ghost use Rattle.pt_map.specs.Filled.{Fills, HasRoom, IsDeeper, MayFill, MayGoInto, MayStore, MayStoreRun, Spends, SpendsOn, StoresRun, next_table};
 
 use crate::entry::under_entry;
 use pt_format::{Block, Format, WordRun};
@@ -97,6 +97,29 @@ fn link<F: Format, H: Holder<F>>(holder: &mut H, level: u32, number: u32, page: 
     match holder.install(number) {
         Won::Yes => {}
         Won::Met => holder.unplace(),
+    }
+}
+
+/// Writes an extent that is a run of so many equal blocks of the path's last table, of this level: by one call, where
+/// their words go by one step.
+#[inline(always)]
+pub(crate) fn fill_run<F: Format, H: Holder<F>>(
+    holder: &mut H,
+    level: u32,
+    extent: Extent,
+    log2: u32,
+    count: u64,
+)
+    requires may { MayStore F.layout (H.view holder.old) extent level }
+    requires run { IsRunOf F.layout extent log2 level count }
+    ensures stays { Stays H.space H.aside H.alone holder.old holder.new }
+    ensures fills { Fills F.layout H.tells (H.view holder.old) (H.view holder.new) extent level }
+{
+    let run = F::word_run(level, log2, extent.out, extent.prot, count);
+    if run.blocks == count {
+        write_run::<F, H>(holder, level, extent.block(log2), run);
+    } else {
+        fill::<F, H>(holder, level, extent);
     }
 }
 

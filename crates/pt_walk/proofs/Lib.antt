@@ -4,6 +4,8 @@ pub mod Cuts
 pub mod Descent
 pub mod Ranges
 pub mod Books
+-- entries in a row that are empty
+mod EmptyRuns
 -- paths that lose nodes; addresses, and words of blocks
 mod Climbs
 mod Bytes
