@@ -136,7 +136,7 @@ pub(crate) fn write_entry<F: Format, H: Holder<F>>(holder: &mut H, level: u32, b
 
 /// Stores the words of so many equal blocks that follow each other in the path's last table, of this level.
 /// `block` is the first; the words go by the run's step.
-#[inline(never)]
+#[inline(always)]
 pub(crate) fn write_run<F: Format, H: Holder<F>>(
     holder: &mut H,
     level: u32,

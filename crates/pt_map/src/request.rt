@@ -19,7 +19,7 @@ use pt_format::{Format, Prot, Span, byte_of, is_whole, range_of};
 use pt_sweep::draw;
 use pt_tile::Extent;
 use pt_view::Holder;
-use pt_walk::{Under, climb, descend, first_at, first_below, spine_end};
+use pt_walk::{Under, climb, descend, first_at, look_below, spine_end};
 
 /// The extent that a request is, where its range may be mapped in a span by its numbers alone.
 fn extent_in<F: Format>(
@@ -119,7 +119,7 @@ fn map_run<F: Format, H: Holder<F>>(
     ensures ends { EndsBelow F.layout H.tells (H.alone holder.old) (linked_count (H.view holder.old) (H.aside holder.old))
         (H.view holder.old) (H.view holder.new) extent level result }
 {
-    let under = first_below::<F, H>(holder, level, extent.first, extent.end);
+    let under = look_below::<F, H>(holder, level, extent.first, extent.end);
     if let Under::Mapped { page } = under {
         return Err(MapRefused::Occupied {
             address: byte_of::<F>(page),

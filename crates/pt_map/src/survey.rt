@@ -14,7 +14,7 @@ use pt_format::Format;
 use pt_num::Span;
 use pt_tile::{Extent, tables_needed};
 use pt_view::{Holder, Seen};
-use pt_walk::{Under, entry_number, first_below};
+use pt_walk::{Under, entry_number, look_below};
 
 /// How many of the tables below a level that an extent under one entry needs there are, where none is linked
 /// under that entry; `cap` where there are more. The entry is one of a table of that level.
@@ -59,7 +59,7 @@ fn look<F: Format, H: Holder<F>>(holder: &mut H, level: u32, extent: Extent, cap
     ensures stays { Stays H.space H.aside H.alone holder.old holder.new }
     ensures surveyed { Surveyed F.layout H.tells (H.alone holder.old) (H.view holder.old) (H.view holder.new) extent level cap result }
 {
-    match first_below::<F, H>(holder, level, extent.first, extent.end) {
+    match look_below::<F, H>(holder, level, extent.first, extent.end) {
         Under::Mapped { page } => Found::Mapped { page },
         Under::Tables => Found::Absent {
             count: 0,

@@ -1,5 +1,5 @@
 -- The look at a run of entries: where their words are zero, nothing stands under them.
-use Rattle.std.proofs.Common.{◌≡◌, ℕ, Bool, ◌+◌, ◌-◌, ◌^◌, ◌<◌, ◌≤◌, List, refl, ap, sym, ◌∙◌, subst, arith}
+use Rattle.std.proofs.Common.{◌≡◌, ℕ, Bool, ◌+◌, ◌-◌, ◌^◌, ◌<◌, ◌≤◌, refl, ap, sym, ◌∙◌, subst, arith}
 use Rattle.std.specs.Prelude.{IsTrue, Some, slice_index}
 use Rattle.pt_model.specs.declared.position.Position.{Position}
 use Rattle.pt_model.specs.Layout.{Layout}
@@ -13,7 +13,7 @@ use Rattle.pt_view.proofs.Loads.{loads_here}
 use Rattle.pt_plain.specs.Owner.{Fields, IsOwner, IsZeroRun, span_view}
 use Rattle.pt_plain.proofs.EntryCalls.{finds_zero}
 use Rattle.pt_plain.proofs.Laws.{Laws}
-use Rattle.pt_plain.proofs.Owners.{Does, frame_within, given}
+use Rattle.pt_plain.proofs.Owners.{frame_within, given}
 
 -- the path has one last table
 same_place : {f : Layout} {v : View} {p q : Position} {n m : ℕ} → IsEntryAt f v p n → IsEntryAt f v q m → p ≡ q

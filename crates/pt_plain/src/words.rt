@@ -178,9 +178,7 @@ pub(crate) fn zero_run<F: Format>(
     let mut cleared = 0;
     for done in 0..count {
         let at = place + done as usize;
-        if words[at] != 0 {
-            cleared += 1;
-        }
+        cleared += u32::from(words[at] != 0);
         words[at] = 0;
     }
     cleared

@@ -108,25 +108,6 @@ pub fn climb<F: Format, H: Holder<F>>(holder: &mut H, tables: u32)
     }
 }
 
-/// Whether the entries over a range in the path's last table, of this level, are all empty.
-fn is_empty_over<F: Format, H: Holder<F>>(
-    holder: &mut H,
-    level: u32,
-    first: u64,
-    end: u64,
-) -> bool
-    requires range { IsOverRange F.layout (H.view holder.old) first end level }
-    requires owns { OwnsAll F.layout (H.view holder.old) }
-    ensures stays { Stays H.space H.aside H.alone holder.old holder.new }
-    ensures walked { ByLoads H.tells (H.view holder.old) (H.view holder.new) }
-    ensures path { (H.view holder.new).path ≡ (H.view holder.old).path }
-    ensures nothing { IsTrue result → IsClear F.layout (H.view holder.old) first end level → FindsUnder F.layout (H.view holder.old) first end level Nothing }
-{
-    let number = entry_number::<F>(level, first);
-    let last = entry_number::<F>(level, end - 1);
-    holder.empty_run(number, last - number + 1)
-}
-
 /// What stands under the path's last table, of this level, over a range, where no piece of a higher level has one of
 /// its pages.
 #[cycle(first_below)]
@@ -143,9 +124,6 @@ pub fn first_below<F: Format, H: Holder<F>>(
     ensures path { (H.view holder.new).path ≡ (H.view holder.old).path }
     ensures under { IsClear F.layout (H.view holder.old) first end level → FindsUnder F.layout (H.view holder.old) first end level result }
 {
-    if is_empty_over::<F, H>(holder, level, first, end) {
-        return Under::Nothing;
-    }
     let mut at = first;
     let mut tables = false;
     while at < end {
@@ -187,5 +165,42 @@ pub fn first_at<F: Format, H: Holder<F>>(holder: &mut H, level: u32, first: u64,
                 _ => Under::Tables,
             }
         }
+    }
+}
+
+/// Whether the entries over a range in the path's last table, of this level, are all empty.
+#[inline(always)]
+fn is_empty_over<F: Format, H: Holder<F>>(holder: &mut H, level: u32, first: u64, end: u64) -> bool
+    requires range { IsOverRange F.layout (H.view holder.old) first end level }
+    requires owns { OwnsAll F.layout (H.view holder.old) }
+    ensures stays { Stays H.space H.aside H.alone holder.old holder.new }
+    ensures walked { ByLoads H.tells (H.view holder.old) (H.view holder.new) }
+    ensures path { (H.view holder.new).path ≡ (H.view holder.old).path }
+    ensures nothing { IsTrue result → IsClear F.layout (H.view holder.old) first end level → FindsUnder F.layout (H.view holder.old) first end level Nothing }
+{
+    let number = entry_number::<F>(level, first);
+    let last = entry_number::<F>(level, end - 1);
+    holder.empty_run(number, last - number + 1)
+}
+
+/// The same as `first_below`, of a range over which most often nothing stands: its entries are looked at by one call first.
+#[inline(always)]
+pub fn look_below<F: Format, H: Holder<F>>(
+    holder: &mut H,
+    level: u32,
+    first: u64,
+    end: u64,
+) -> Under
+    requires range { IsOverRange F.layout (H.view holder.old) first end level }
+    requires owns { OwnsAll F.layout (H.view holder.old) }
+    ensures stays { Stays H.space H.aside H.alone holder.old holder.new }
+    ensures walked { ByLoads H.tells (H.view holder.old) (H.view holder.new) }
+    ensures path { (H.view holder.new).path ≡ (H.view holder.old).path }
+    ensures under { IsClear F.layout (H.view holder.old) first end level → FindsUnder F.layout (H.view holder.old) first end level result }
+{
+    if is_empty_over::<F, H>(holder, level, first, end) {
+        Under::Nothing
+    } else {
+        first_below::<F, H>(holder, level, first, end)
     }
 }

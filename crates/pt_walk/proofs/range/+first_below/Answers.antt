@@ -1,11 +1,11 @@
-use Rattle.std.proofs.Common.{◌≡◌, ℕ, ◌+◌, ◌-◌, ◌*◌, ◌/◌, ◌<◌, ◌≤◌, ◌∙◌, sym, subst, rules, arith}
+use Rattle.std.proofs.Common.{◌≡◌, ℕ, ◌+◌, ◌-◌, ◌*◌, ◌/◌, ◌<◌, ◌≤◌, ◌∙◌, refl, sym, subst, rules, arith}
 use Rattle.std.proofs.lemmas.Bool.{false≢true}
 use Rattle.pt_model.specs.Layout.{pages_of_entry}
 use Rattle.pt_view.specs.declared.view.View.{View}
 use Rattle.pt_view.specs.declared.holder.Seen.{Seen}
 use Rattle.pt_view.specs.declared.holder.Seen.TheVariants.{Empty, Entered}
-use Rattle.pt_view.proofs.Loads.{IsLoad, back_loads, back_path, leaf_loads, load_leaf, load_none, loads_on, none_loads, some_path, table_high}
-use Rattle.pt_view.proofs.Stays.{stays_on}
+use Rattle.pt_view.proofs.Loads.{IsLoad, back_loads, back_path, leaf_loads, load_leaf, load_none, loads_here, loads_on, none_loads, some_path, table_high}
+use Rattle.pt_view.proofs.Stays.{stays_here, stays_on}
 use Rattle.pt_view.specs.Loads.{ByLoads}
 use Rattle.pt_view.specs.Views.{Stays}
 use Rattle.pt_walk.specs.declared.range.Under.{Under}
@@ -141,9 +141,9 @@ pub first_below-loop-at-init : goal.first_below-loop-at-init
 first_below-loop-at-init g t c = record {
   from = omega arith;
   to = (let some = c.requires.range.some in omega arith);
-  stays = c.is_empty_over.ensures.stays;
-  walked = c.is_empty_over.ensures.walked;
-  path = c.is_empty_over.ensures.path;
+  stays = stays_here;
+  walked = loads_here;
+  path = refl;
   free = λ clear page low high. absurd (omega arith);
   none = λ clear e q m low from to. absurd (omega arith);
 }
@@ -205,8 +205,3 @@ first_below-returns-else-tables-clause-under g t c = λ clear. (
   (λ page low high. c.loop-at.invariant.free clear page low (let past = c.loop-at-test.false in omega arith)),
   (λ q m low from to. c.loop-at.invariant.none clear c.if-tables.false q m low from (let past = c.loop-at-test.false in omega arith)),
 )
-
--- All entries over the range are empty.
-
-pub first_below-returns-then-is_empty_over-clause-under : goal.first_below-returns-then-is_empty_over-clause-under
-first_below-returns-then-is_empty_over-clause-under g t c = c.is_empty_over.ensures.nothing c.if-is_empty_over.true

@@ -14,12 +14,12 @@ decreases-first_at g l = 2 * l.level
 abbrev pub invariant-first_below-loop-at : goal.invariant-first_below-loop-at
 invariant-first_below-loop-at g l =
     let f = g.F.Format.layout in
-    let v : View = g.H.Holder.view l.fn.holder in
+    let v : View = g.H.Holder.view l.initial.holder in
     let w : View = g.H.Holder.view l.holder in
     record {
       from : l.first ≤ l.at;
       to : l.at ≤ l.end;
-      stays : Stays g.H.Holder.space g.H.Holder.aside g.H.Holder.alone l.fn.holder l.holder;
+      stays : Stays g.H.Holder.space g.H.Holder.aside g.H.Holder.alone l.initial.holder l.holder;
       walked : ByLoads g.H.Holder.tells v w;
       path : w.path ≡ v.path;
       free : IsClear f v l.first l.end l.level → IsFree f v l.first l.at;

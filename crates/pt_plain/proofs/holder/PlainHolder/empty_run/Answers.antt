@@ -1,4 +1,4 @@
-use Rattle.std.proofs.Common.{◌≡◌, ℕ, List, refl, ap, sym, ◌∙◌, subst}
+use Rattle.std.proofs.Common.{ℕ, List, sym, subst}
 use Rattle.std.specs.Prelude.{IsTrue, slice_index}
 use Rattle.pt_model.specs.Words.{entry_place}
 use Rattle.pt_view.specs.Runs.{LooksAtRun, MeetsRun}

@@ -1,4 +1,4 @@
-use Rattle.std.proofs.Common.{ap, sym, subst}
+use Rattle.std.proofs.Common.{sym, subst}
 use Rattle.pt_view.specs.declared.view.View.{View}
 use Rattle.pt_view.specs.Calls.{FillsSpace, HasEveryFrame, HasFramesBelow}
 use Rattle.pt_plain.specs.Owner.{Owned}

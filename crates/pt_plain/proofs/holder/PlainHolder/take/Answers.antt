@@ -1,7 +1,6 @@
-use Rattle.std.proofs.Common.{◌≡◌, ◌≢◌, ℕ, false, ◌+◌, ◌<◌, List, length, refl, ap, sym, ◌∙◌, subst, arith, take, drop, ◌++◌}
+use Rattle.std.proofs.Common.{◌≡◌, ◌≢◌, ℕ, ◌+◌, ◌<◌, List, length, refl, ap, sym, ◌∙◌, subst, arith, take, drop, ◌++◌}
 use Rattle.std.specs.Prelude.{slice_set}
 use Rattle.pt_model.specs.Words.{tag}
-use Rattle.pt_view.specs.Calls.{FillsSpace, HasEveryFrame, IsTaken}
 use Rattle.pt_rule.specs.Tags.{held_word}
 use Rattle.pt_plain.specs.Owner.{Owned}
 use Rattle.pt_plain.proofs.Laws.{Laws}
