@@ -10,7 +10,7 @@ ghost use Rattle.pt_view.specs.Pieces as pieces;
 ghost use Rattle.pt_map.specs.Stands.{IsEntryExtent, IsRunOf};
 ghost use Rattle.pt_map.specs.Filled.{Fills, HasRoom, IsDeeper, MayFill, MayGoInto, MayStore, MayStoreRun, Spends, SpendsOn, StoresRun, next_table};
 
-use crate::entry::under_entry;
+use crate::entry::{is_under_one, under_entry};
 use pt_format::{Block, Format, WordRun};
 use pt_num::align_down;
 use pt_tile::Extent;
@@ -24,6 +24,10 @@ pub(crate) fn fill<F: Format, H: Holder<F>>(holder: &mut H, level: u32, extent: 
     ensures stays { Stays H.space H.aside H.alone holder.old holder.new }
     ensures fills { Fills F.layout H.tells (H.view holder.old) (H.view holder.new) extent level }
 {
+    if is_under_one::<F>(level, extent) {
+        fill_entry::<F, H>(holder, level, extent);
+        return;
+    }
     let mut rest = extent;
     while rest.first < rest.end {
         let to = fill_first::<F, H>(holder, level, rest);
