@@ -1,5 +1,5 @@
 -- Words of which a run is set to zero, and how many of them weren't.
-use Rattle.std.proofs.Common.{◌≡◌, ℕ, zero, suc, Bool, true, false, ◌+◌, ◌*◌, ◌≤◌, List, refl, ap, sym, ◌∙◌, arith, add-one, get_or-set_other}
+use Rattle.std.proofs.Common.{◌≡◌, ℕ, zero, suc, ◌+◌, ◌*◌, ◌≤◌, List, refl, ap, sym, ◌∙◌, arith, add-one, get_or-set_other}
 use Rattle.std.specs.Prelude.{◌==◌, not, slice_index, slice_set}
 use Rattle.pt_model.specs.Sets.{one_if}
 use Rattle.pt_plain.specs.Owner.{nonzero_in, set_run}
@@ -15,17 +15,6 @@ pub zeros_more : (words : List ℕ) (place i : ℕ) → slice_set (set_run words
 zeros_more words place i =
     let none : 0 ≡ 0 + i * 0 = omega arith in
     (λ j. slice_set (set_run words place i 0 0) (place + i) (none j)) ∙ ap (λ (k : ℕ). set_run words place k 0 0) (sym (add-one i))
-
-pub one_at_most : (b : Bool) → one_if b ≤ 1
-one_at_most true = omega arith
-one_at_most false = omega arith
-
-pub nonzero_few : (words : List ℕ) (place count : ℕ) → nonzero_in words place count ≤ count
-nonzero_few words place zero = omega arith
-nonzero_few words place (suc count) =
-    let rest = nonzero_few words place count in
-    let one = one_at_most (not (slice_index words (place + count) == 0)) in
-    omega arith
 
 -- with one word more
 pub nonzero_more : (words : List ℕ) (place i : ℕ) → nonzero_in words place i + one_if (not (slice_index words (place + i) == 0)) ≡ nonzero_in words place (i + 1)

@@ -175,13 +175,13 @@ pub(crate) fn zero_run<F: Format>(
     ensures number { result ≡ owner.nonzero_in words.old (words_are.entry_place F.layout frames frame first) count }
 {
     let place = entry_place::<F>(frames, frame, first);
-    let mut cleared = 0;
+    let mut empty: u64 = 0;
     for done in 0..count {
         let at = place + done as usize;
-        cleared += u32::from(words[at] != 0);
+        empty += u64::from(words[at] == 0);
         words[at] = 0;
     }
-    cleared
+    count - empty as u32
 }
 
 /// The number below which no frame is free, where it was so below `number`, and this frame is found not free or taken.
