@@ -1,6 +1,7 @@
 -- The calls on tags: take, place, unplace, and the freeing of one frame.
-use Rattle.std.proofs.Common.{◌≡◌, ◌≢◌, inl, inr, ℕ, suc, Bool, true, false, ◌+◌, ◌-◌, ◌%◌, ◌^◌, ◌<◌, ◌≤◌, List, [], ◌∷◌, length, refl, ap, sym, ◌∙◌, subst, arith, eq-eqb, ⊎_elim, ◌++◌}
+use Rattle.std.proofs.Common.{◌≡◌, ◌≢◌, ◌⊎◌, inl, inr, ℕ, suc, Bool, true, false, ◌+◌, ◌-◌, ◌%◌, ◌^◌, ◌<◌, ◌≤◌, List, [], ◌∷◌, length, refl, ap, sym, ◌∙◌, subst, arith, eq-eqb, ⊎_elim, ◌++◌}
 use Rattle.std.specs.Prelude.{Option, None, Some, ◌==◌, slice_index, slice_set, if◌then◌else◌}
+use Rattle.std.proofs.lemmas.Bool.{cases_eq, ne_eqb}
 use Rattle.std.proofs.Math.Pow.{pow_mono}
 use mathlib.Core.Logic.{dite}
 use native.Mathlib.Decide.{ℕ_discrete}
@@ -14,7 +15,7 @@ use Rattle.pt_view.specs.declared.view.View.{View}
 use Rattle.pt_view.specs.declared.view.Prepared.{Prepared}
 use Rattle.pt_view.specs.Lists.{IsIn}
 use Rattle.pt_view.specs.Views.{Aside}
-use Rattle.pt_view.specs.Calls.{FillsSpace, FitsSpace, HasEveryFrame, IsFreed, IsPlaced, IsTaken, IsUnplaced, prepared_count}
+use Rattle.pt_view.specs.Calls.{FillsSpace, FitsSpace, HasEveryFrame, HasFramesBelow, IsFreed, IsPlaced, IsTaken, IsUnplaced, prepared_count}
 use Rattle.pt_rule.specs.Tags.{Chained, IsEnd, first_or, held_word}
 use Rattle.pt_rule.specs.Holds.{Holds}
 use Rattle.pt_rule.specs.Lawful.{Lawful}
@@ -23,7 +24,7 @@ use Rattle.pt_rule.specs.Meets.{Always}
 use Rattle.pt_rule.proofs.Laws.{views_hold}
 use Rattle.pt_rule.proofs.TagFacts.{held_nonzero, placed_some, prepared_by}
 use Rattle.pt_view.proofs.Members.{in_cases, in_here, in_more}
-use Rattle.pt_plain.specs.Owner.{Fields, IsOwner, aside_of, prepared_at, span_view, whole_view}
+use Rattle.pt_plain.specs.Owner.{Fields, IsOwner, aside_of, prepared_at, span_view, taken_upto, whole_view}
 use Rattle.pt_plain.proofs.Carried.{freed_on, placed_on, taken_on, unplaced_on}
 use Rattle.pt_plain.proofs.Laws.{Laws}
 use Rattle.pt_plain.proofs.Matches.{path_kept, prepared_kept, prepared_none, purse_more}
@@ -47,11 +48,14 @@ some_first (x ∷ xs) some e = let w : ⊥ = cc in w
 pub tags_before : (words : List ℕ) (frame word : ℕ) → tag words frame ≢ 0 → (g : ℕ) → tag (slice_set words (1 + frame) word) g ≢ 0 → tag words g ≢ 0
 tags_before words frame word old g some = dite (ℕ_discrete g frame) (λ e z. old (sym (ap (tag words) e) ∙ z)) (λ ne z. some (tag_else words frame word g ne ∙ z))
 
--- What the calls do: a frame is the purse's first, the purse's first frame is prepared, the prepared one is put back,
--- and the first one is freed.
+-- What the calls do: a frame isn't free, it is the purse's first, the purse's first frame is prepared, the prepared one is
+-- put back, and the first one is freed.
+abbrev pub Lost : {f : Layout} {o : Fields} → IsOwner f o → (frame number : ℕ) → Type 0
+Lost {f} {o} own frame number = Does f o (record o { taken_below = number }) (λ v w. IsTaken ⊥ frame v false w)
+
 module _ {f : Layout} {o : Fields} (own : IsOwner f o) (frame : ℕ) (words : List ℕ) where
-  abbrev pub Taken : Type 0
-  Taken = Does f o (record o { words = words; head = Some frame; held = o.held + 1 }) (λ v w. IsTaken ⊥ frame v true w)
+  abbrev pub Taken : (number : ℕ) → Type 0
+  Taken number = Does f o (record o { words = words; head = Some frame; held = o.held + 1; taken_below = number }) (λ v w. IsTaken ⊥ frame v true w)
 
   abbrev pub Placed : (next : Option ℕ) → Position → Type 0
   Placed next p = Does f o (record o { words = words; head = next; held = o.held - 1; prepared = Some frame }) (λ v w. IsPlaced ⊥ v p w)
@@ -59,8 +63,8 @@ module _ {f : Layout} {o : Fields} (own : IsOwner f o) (frame : ℕ) (words : Li
   abbrev pub Unplaced : Type 0
   Unplaced = Does f o (record o { words = words; head = Some frame; held = o.held + 1; prepared = None }) (λ v w. IsUnplaced ⊥ v w)
 
-  abbrev pub Freed : (next : Option ℕ) → Type 0
-  Freed next = Does f o (record o { words = words; head = next; held = o.held - 1 }) (λ v w. IsFreed ⊥ (frame ∷ []) v w)
+  abbrev pub Freed : (next : Option ℕ) (number : ℕ) → Type 0
+  Freed next number = Does f o (record o { words = words; head = next; held = o.held - 1; taken_below = number }) (λ v w. IsFreed ⊥ (frame ∷ []) v w)
 
 module _ {f : Layout} (laws : Laws f) {o : Fields} (own : IsOwner f o) where
   abbrev v : View
@@ -100,9 +104,21 @@ module _ {f : Layout} (laws : Laws f) {o : Fields} (own : IsOwner f o) where
 
   -- Take.
 
-  -- the frame wasn't free: nothing changes
-  pub not_taken : (frame : ℕ) → frame < o.frames → tag o.words frame ≢ 0 → Does f o o (λ v w. IsTaken ⊥ frame v false w)
-  not_taken frame lt some = does (λ v w. IsTaken ⊥ frame v false w) own own (record {
+  -- each frame below the number after a try was below it before, or is the one that was tried
+  upto_cases : (number frame g : ℕ) → g < taken_upto number frame → (g ≡ frame) ⊎ (g < number)
+  upto_cases number frame g less = elim (cases_eq frame number) [
+    | inl e ↦ (let below : g < frame + 1 = subst (λ (b : Bool). g < (if b then frame + 1 else number)) (eq-eqb frame number e) less in
+        dite (ℕ_discrete g frame) (λ same. inl same) (λ ne. inr (omega arith)))
+    | inr ne ↦ inr (subst (λ (b : Bool). g < (if b then frame + 1 else number)) (ne_eqb frame number ne) less)
+  ]
+
+  -- the number has a part in no view
+  same_view : (number : ℕ) → whole_view f (record o { taken_below = number }) ≡ v
+  unfolding whole_view
+  same_view number = refl
+
+  not_taken_here : (frame : ℕ) → frame < o.frames → tag o.words frame ≢ 0 → IsTaken ⊥ frame v false v
+  not_taken_here frame lt some = record {
     range = record { frames = refl; levels = refl; first = refl; count = refl };
     book = record { pieces = refl; tables = refl; top = refl };
     path = refl;
@@ -112,7 +128,26 @@ module _ {f : Layout} (laws : Laws f) {o : Fields} (own : IsOwner f o) where
     busy = λ x. (λ h. inr h, λ h. ⊎_elim (λ (e : x ≡ frame). subst (IsIn v.busy) (sym e) (busy_here own frame lt some)) (λ (old : IsIn v.busy x). old) h);
     known = λ p. (λ h. h, λ h. h);
     told = λ no. absurd no;
-  })
+  }
+
+  -- the frame wasn't free: the view stays
+  pub not_taken : (frame : ℕ) → frame < o.frames → tag o.words frame ≢ 0 → (number : ℕ) → number ≡ taken_upto o.taken_below frame → Lost own frame number
+  not_taken frame lt some number is =
+      let same = same_view number in
+      let all : HasFramesBelow v number =
+      (λ g less. ⊎_elim (λ (e : g ≡ frame). subst (IsIn v.busy) (sym e) (busy_here own frame lt some)) (λ (old : g < o.taken_below). own.taken g old)
+      (upto_cases o.taken_below frame g (subst (λ (n : ℕ). g < n) is less))) in
+      let now : IsOwner f (record o { taken_below = number }) = record {
+        lawful = subst (λ (w : View). Lawful f o.frames o.levels o.words (w ∷ [])) (sym same) own.lawful;
+        span = own.span;
+        first_is = own.first_is;
+        held_is = own.held_is;
+        low = own.low;
+        levels_are = own.levels_are;
+        eight = own.eight;
+        taken = subst (λ (w : View). HasFramesBelow w number) (sym same) all;
+      } in
+      does (λ v w. IsTaken ⊥ frame v false w) own now (subst (IsTaken ⊥ frame v false) (sym same) (not_taken_here frame lt some))
 
   module _ (frame : ℕ) (lt : frame < o.frames) (free : tag o.words frame ≡ 0) where
     abbrev u : View
@@ -125,15 +160,15 @@ module _ {f : Layout} (laws : Laws f) {o : Fields} (own : IsOwner f o) where
     pub take_room : o.held < o.frames
     take_room = let r = told laws own (take frame) lt free in let e = purse_length in omega arith
 
-    pub taken : (words : List ℕ) → words ≡ slice_set o.words (1 + frame) (held_word o.head) → Taken own frame words
-    taken words is =
+    pub taken : (words : List ℕ) → words ≡ slice_set o.words (1 + frame) (held_word o.head) → (number : ℕ) → number ≡ taken_upto o.taken_below frame → Taken own frame words number
+    taken words is number number_is =
         let puts : (if tag o.words frame == 0 then held_word (first_or v.end v.purse) else tag o.words frame) ≡ held_word o.head =
         ap (λ (b : Bool). if b then held_word (first_or v.end v.purse) else tag o.words frame) (eq-eqb (tag o.words frame) 0 free) ∙ ap held_word next_is in
         let r : IsTaken Always frame v true u =
         subst (λ (t : Bool × View). IsTaken Always frame v t.0 t.1) (λ i. (eq-eqb (tag o.words frame) 0 free i, after_is i)) (says laws own (take frame) lt) in
         let m = matches own in
         let root = ap (λ (z : ℕ). z % 8) (ap (λ (ws : List ℕ). slice_index ws 0) is ∙ root_after_tag o.words frame (held_word o.head)) in
-        read_back laws own u (record o { words = words; head = Some frame; held = o.held + 1 })
+        read_back laws own u (record o { words = words; head = Some frame; held = o.held + 1; taken_below = number })
         (subst (λ (w : View). Lawful f o.frames o.levels words (w ∷ [])) after_is (stored laws own (take frame) lt puts is)) r.range own.span
         (record { purse = purse_more refl refl m.purse; path = path_kept refl root m.path; prepared = prepared_kept refl m.prepared })
         (record {
@@ -141,6 +176,7 @@ module _ {f : Layout} (laws : Laws f) {o : Fields} (own : IsOwner f o) where
           busy = λ g below some. dite (ℕ_discrete g frame) (λ e. (r.busy g).1 (inl e))
               (λ ne. (r.busy g).1 (inr (busy_here own g below (λ z. some (ap (λ (ws : List ℕ). tag ws g) is ∙ tag_else o.words frame (held_word o.head) g ne ∙ z)))));
           known = known_after own u (λ p h. h) (λ p h. inl h) refl;
+          taken = λ g less. ⊎_elim (λ (e : g ≡ frame). (r.busy g).1 (inl e)) (λ (old : g < o.taken_below). (r.busy g).1 (inr (own.taken g old))) (upto_cases o.taken_below frame g (subst (λ (n : ℕ). g < n) number_is less));
         })
         (λ v w. IsTaken ⊥ frame v true w) (λ a. taken_on a r)
 
@@ -209,8 +245,9 @@ module _ {f : Layout} (laws : Laws f) {o : Fields} (own : IsOwner f o) where
     only_frame : (g : ℕ) → IsIn (frame ∷ []) g → g ≡ frame
     only_frame g h = ⊎_elim (λ (e : g ≡ frame). e) (λ (none : IsIn [] g). absurd (omega arith)) (in_cases g frame [] h)
 
-    pub freed : (words : List ℕ) (next : Option ℕ) → words ≡ slice_set o.words (1 + frame) 0 → first_or None rest ≡ next → Freed own frame words next
-    freed words next stores next_is =
+    pub freed : (words : List ℕ) (next : Option ℕ) → words ≡ slice_set o.words (1 + frame) 0 → first_or None rest ≡ next → (number : ℕ) → number ≤ o.taken_below → number ≤ frame →
+        Freed own frame words next number
+    freed words next stores next_is number below here =
         let u : View = record v { purse = rest_of v.purse; busy = without frame v.busy } in
         let r : IsFreed Always (frame ∷ []) v u = says laws own (free frame) purse_is in
         let m = matches own in
@@ -219,7 +256,7 @@ module _ {f : Layout} (laws : Laws f) {o : Fields} (own : IsOwner f o) where
         let h = purse_length in
         let root = ap (λ (z : ℕ). z % 8) (ap (λ (ws : List ℕ). slice_index ws 0) stores ∙ root_after_tag o.words frame 0) in
         let zero_now : tag words frame ≡ 0 = ap (λ (ws : List ℕ). tag ws frame) stores ∙ tag_same f o.frames o.words frame 0 own.lawful.sizes.words_are head_within in
-        read_back laws own u (record o { words = words; head = next; held = o.held - 1 }) (stored laws own (free frame) purse_is refl stores) r.range own.span
+        read_back laws own u (record o { words = words; head = next; held = o.held - 1; taken_below = number }) (stored laws own (free frame) purse_is refl stores) r.range own.span
         (record {
           purse = record { first_is = ap (λ (xs : List ℕ). first_or None (rest_of xs)) purse_is.1 ∙ next_is; held_is = omega arith; end = m.purse.end };
           path = path_kept refl root m.path;
@@ -233,6 +270,7 @@ module _ {f : Layout} (laws : Laws f) {o : Fields} (own : IsOwner f o) where
                 (λ ne. some (ap (λ (ws : List ℕ). tag ws g) stores ∙ tag_else o.words frame 0 g ne ∙ z))),
           );
           known = known_after own u (λ p h. h) (λ p h. inl h) refl;
+          taken = λ g less. (r.busy g).1 (λ (gone : IsIn (frame ∷ []) g). let same = only_frame g gone in omega arith, own.taken g (omega arith));
         })
         (λ v w. IsFreed ⊥ (frame ∷ []) v w) (λ a. freed_on a r)
 

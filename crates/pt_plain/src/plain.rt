@@ -30,6 +30,8 @@ pub struct Plain<F: Format> {
     pub(crate) path: [u32; 8],
     pub(crate) level: u32,
     pub(crate) prepared: Option<u32>,
+    /// No frame below it is free, so that a draw begins there.
+    pub(crate) taken_below: u32,
     pub(crate) format: PhantomData<F>,
 }
 
@@ -39,10 +41,10 @@ impl<F: Format> Model for Plain<F> {
     ghost Value = { Owned };
 
     ghost view = { λ p.
-        owned F.layout (whole_fields F.layout p.words.items p.frames p.levels p.head p.held p.path p.level p.prepared) };
+        owned F.layout (whole_fields F.layout p.words.items p.frames p.levels p.head p.held p.path p.level p.prepared p.taken_below) };
 
     ghost invariant = { λ p.
-        IsOwner F.layout (whole_fields F.layout p.words.items p.frames p.levels p.head p.held p.path p.level p.prepared) };
+        IsOwner F.layout (whole_fields F.layout p.words.items p.frames p.levels p.head p.held p.path p.level p.prepared p.taken_below) };
 }
 
 /// Chains the frames from 1 to `hold`: the tag of each names the next one, and the last one's names none.
@@ -94,6 +96,7 @@ impl<F: Format> Plain<F> {
             path: [0; 8],
             level: levels,
             prepared: None,
+            taken_below: 0,
             format: PhantomData,
         })
     }
@@ -113,6 +116,7 @@ impl<F: Format> Plain<F> {
             path: _,
             level: _,
             prepared: _,
+            taken_below: _,
             format: _,
         } = self;
         words

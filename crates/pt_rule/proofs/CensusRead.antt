@@ -91,12 +91,12 @@ module _ (f : Layout) (good : IsLayout f) (d : WordsDiffer f) (a : StepsAgree f)
     told (Table address) is stands = pointer_read f a p number word address is.at_level is.a_frame is.word_is
     told (Leaf log2 prot) is stands = elim stands [
       | nothing z none ↦ absurd (d.leaf_some p.level log2 is.out is.part prot is.may (sym is.word_is ∙ z))
-      | a_part x member legal here alone word_is ↦ leaf_there log2 prot is x member legal here word_is
+      | a_part x member legal here once word_is ↦ leaf_there log2 prot is x member legal here word_is
       | a_table h linked level word_is none ↦ absurd (d.apart p.level log2 is.out is.part (frame_address f h) prot is.may level (frame_there h (child_at f p number) linked) (sym is.word_is ∙ word_is))
     ]
     told Alien alien stands = elim stands [
       | nothing z none ↦ alien.not_empty z
-      | a_part x member legal here alone word_is ↦
+      | a_part x member legal here once word_is ↦
           let level : p.level ≡ level_of f x = level_of_piece f p number x here in
           alien.no_leaf x.block.log2 x.block.out x.part x.block.prot
           (subst (λ (k : ℕ). MayBeLeaf f k x.block.log2 x.block.out x.block.prot x.part) (sym level) (may_be_leaf f good v x (own_piece x member)))

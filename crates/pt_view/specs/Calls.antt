@@ -415,6 +415,10 @@ prepared_count (Some x) = 1
 abbrev pub held_count : View → ℕ
 held_count v = length v.purse + prepared_count v.prepared
 
+-- the frames below a number were found not free
+abbrev pub HasFramesBelow : View → (number : ℕ) → Type 0
+HasFramesBelow v number = (frame : ℕ) → frame < number → IsIn v.busy frame
+
 abbrev pub HasEveryFrame : View → Type 0
 HasEveryFrame v = (frame : ℕ) → frame < v.frames → IsIn v.busy frame
 

@@ -5,6 +5,8 @@ pub mod Descent
 pub mod Ranges
 pub mod Books
 pub mod Bytes
+-- entries in a row that are empty
+mod EmptyRuns
 -- paths that lose nodes, and words of blocks
 mod Climbs
 mod Leaves

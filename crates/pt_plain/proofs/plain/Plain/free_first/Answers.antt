@@ -1,4 +1,4 @@
-use Rattle.std.proofs.Common.{◌≡◌, ℕ, ◌+◌, ◌^◌, ◌<◌, List, length, ap, sym, ◌∙◌, subst, take, drop, ◌++◌}
+use Rattle.std.proofs.Common.{◌≡◌, ℕ, ◌+◌, ◌^◌, ◌<◌, ◌≤◌, List, length, ap, sym, ◌∙◌, subst, arith, take, drop, ◌++◌}
 use Rattle.std.specs.Prelude.{Option, None, slice_set}
 use Rattle.pt_model.specs.Words.{tag}
 use Rattle.pt_rule.specs.Tags.{IsEnd, first_or, held_word}
@@ -9,7 +9,7 @@ use Rattle.pt_plain.proofs.Stored.{stored}
 use Rattle.pt_plain.proofs.TagCalls as tags
 use Rattle.pt_plain.proofs.plain.Plain.free_first.Given.{Over}
 use Rattle.pt_plain.proofs.plain.Plain.free_first.Goals as goal
-use Rattle.pt_plain.proofs.plain.Plain.free_first.Goals.{After-deref, After-tag_of, After-set_tag}
+use Rattle.pt_plain.proofs.plain.Plain.free_first.Goals.{After-deref, After-min-self-inside, After-tag_of, After-set_tag}
 
 laws : (g : Over) → Laws g.F.Format.layout
 laws g = let law = g.met.F.Format in record { layout = law.lawful_layout; differ = law.words_differ; agree = law.steps_agree }
@@ -45,14 +45,19 @@ module _ (g : Over) (c : After-set_tag g) where
   next_is : first_or None (tags.rest (laws g) c.self.invariant c.in-Some.frame c.in-Some.is) ≡ c.next_in-next.result
   next_is = sym (c.next_in-next.ensures _ (loaded g (goal.at.After-set_tag g c).After-tag_of ∙ tags.tag_is (laws g) c.self.invariant c.in-Some.frame c.in-Some.is))
 
-  call : tags.Freed c.self.invariant c.in-Some.frame words' c.next_in-next.result
+  call : (number : ℕ) → number ≤ c.self.inside.taken_below → number ≤ c.in-Some.frame → tags.Freed c.self.invariant c.in-Some.frame words' c.next_in-next.result number
   call = tags.freed (laws g) c.self.invariant c.in-Some.frame c.in-Some.is words' c.next_in-next.result words_now next_is
 
+-- no frame below the number is free, and neither is this one below it
+module _ (g : Over) (c : After-min-self-inside g) where
+  done : tags.Freed c.self.invariant c.in-Some.frame (words' g (goal.at.After-min-self-inside g c).After-set_tag) c.next_in-next.result c.min-self-inside.result
+  done = let least = c.min-self-inside.ensures in call g (goal.at.After-min-self-inside g c).After-set_tag c.min-self-inside.result (omega arith) (omega arith)
+
 pub invariant_of-self : goal.invariant_of-self
-invariant_of-self g c = (call g (goal.at.invariant_of-self g c).After-set_tag).owner
+invariant_of-self g c = (done g (goal.at.invariant_of-self g c).After-min-self-inside).owner
 
 pub returns-clause-freed : goal.returns-clause-freed
-returns-clause-freed g c = (c.in-Some.frame, seen (call g (goal.at.returns-clause-freed g c).After-set_tag) c.self.view_is)
+returns-clause-freed g c = (c.in-Some.frame, seen (done g (goal.at.returns-clause-freed g c).After-min-self-inside) c.self.view_is)
 
 pub returns-clause-aside : goal.returns-clause-aside
-returns-clause-aside g c = kept_aside (call g (goal.at.returns-clause-aside g c).After-set_tag) c.self.view_is
+returns-clause-aside g c = kept_aside (done g (goal.at.returns-clause-aside g c).After-min-self-inside) c.self.view_is
