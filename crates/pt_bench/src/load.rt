@@ -31,6 +31,8 @@ pub enum Load {
     Driver,
     /// Runs of 1 GiB whose outputs are one page off alignment, so that only pages tile them.
     Gigabytes,
+    /// Such a run is mapped, and is taken away by the next step.
+    UnmapGigabytes,
     /// A page is mapped, and is taken away by the next step.
     Unmap,
     /// What a driver does: the three of `Driver`, and the block of them is taken away.
@@ -105,6 +107,15 @@ fn taken_away(step: Step) -> Step {
     }
 }
 
+/// A map where the number is even, and else the unmap of its range.
+fn in_turn(number: u32, step: Step) -> Step {
+    if number % 2 == 0 {
+        step
+    } else {
+        taken_away(step)
+    }
+}
+
 /// Step number `number` of a load.
 fn step_at<F: Format>(load: Load, number: u32) -> Step {
     let page = 1 << F::GRANULE;
@@ -115,14 +126,8 @@ fn step_at<F: Format>(load: Load, number: u32) -> Step {
         Load::Sixteen => map_at(number, F::GRANULE + 4, 16 << F::GRANULE, 0),
         Load::Driver => map_at(number, bits, driver_bytes::<F>(number % 3), 0),
         Load::Gigabytes => map_at(number, 30, 1 << 30, page),
-        Load::Unmap => {
-            let step = map_at(number / 2, F::GRANULE, page, 0);
-            if number % 2 == 0 {
-                step
-            } else {
-                taken_away(step)
-            }
-        }
+        Load::UnmapGigabytes => in_turn(number, map_at(number / 2, 30, 1 << 30, page)),
+        Load::Unmap => in_turn(number, map_at(number / 2, F::GRANULE, page, 0)),
         Load::Mix => match number % 4 {
             3 => taken_away(map_at(number - 3, bits, 1 << bits, 0)),
             place => map_at(number, bits, driver_bytes::<F>(place), 0),

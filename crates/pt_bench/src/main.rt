@@ -27,6 +27,7 @@ fn load_named(word: &str) -> Option<Load> {
         "driver" => Some(Load::Driver),
         "gigabytes" => Some(Load::Gigabytes),
         "unmap" => Some(Load::Unmap),
+        "unmap-gigabytes" => Some(Load::UnmapGigabytes),
         "mix" => Some(Load::Mix),
         _ => None,
     }

@@ -352,6 +352,29 @@ module _ {f : Layout} (good : IsLayout f) where
           let all : length (all_needed f n (tiles f x)) ≡ length (tables_of f x) = ap (λ m. length (all_needed f m (tiles f x))) levels in
           let both = count_needed in (omega arith, omega arith)
 
+    -- Under one table of level 0, with fewer pages than that has, it needs one table a level.
+    module _ (under : x.end ≤ end_of_table f (position_over f x.first 0)) (small : first_size f x < f.index) where
+      whole_list : tables_of f x ≡ map (position_over f x.first) (range_with_len 0 f.levels)
+      whole_list = same_members _ _
+          (needs_sorted f f.levels (tiles f x))
+          (sorted_levels (position_over f x.first) (λ i. refl) f.levels 0)
+          (λ p m.
+          let page = needs_page p m in
+          let within : p.level < f.levels = page.3 in
+          subst (λ (q : Position). IsAmong (map (position_over f x.first) (range_with_len 0 f.levels)) q) (needs_over 0 under p m (omega arith))
+          (levels_among (position_over f x.first) f.levels 0 p.level (omega arith) (omega arith)))
+          (λ p m.
+          let r = among_levels (position_over f x.first) f.levels 0 p m in
+          let to = r.2 in
+          let wider : f.index * 1 ≤ f.index * (r.0 + 1) = mul-le f.index 1 f.index (r.0 + 1) (omega arith) (omega arith) in
+          subst (λ (q : Position). IsAmong (tables_of f x) q) (sym r.3) (over_needed r.0 (omega arith) (omega arith)))
+
+      pub one_a_level : (level : ℕ) → level < f.levels → x.end ≤ (x.first / pages_of_entry f level + 1) * pages_of_entry f level → length (tables_below f x level) ≡ level
+      one_a_level level below one =
+          let both = count_needed level below one in
+          let all : length (tables_of f x) ≡ f.levels = ap length whole_list ∙ length-map-range_with_len (position_over f x.first) 0 f.levels in
+          omega arith
+
 -- what a run needs is of the level of its blocks or higher
 pub run_needs : (f : Layout) (good : IsLayout f) (prot : Prot) (k n first out : ℕ) (p : Position) → ((b : Block) → IsOneBlock (run_blocks n k prot first out) b → IsLegalBlock f b) →
     AnyNeeds f f.levels (run_blocks n k prot first out) p → level_of_size f k ≤ p.level

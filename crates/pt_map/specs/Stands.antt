@@ -5,7 +5,7 @@ use Rattle.pt_model.specs.Layout.{Layout}
 use Rattle.pt_model.specs.Sets.{IsAmong}
 use Rattle.pt_model.specs.Tables.{is_spine, least_top, spine_position, starting_top}
 use Rattle.pt_tile.specs.declared.extent.Extent.{Extent}
-use Rattle.pt_tile.specs.Extents.{IsExtent, LiesUnderEntry, first_size}
+use Rattle.pt_tile.specs.Extents.{IsExtent, IsRun, LiesUnderEntry, first_size}
 use Rattle.pt_view.specs.declared.view.View.{View}
 use Rattle.pt_walk.specs.Walks.{IsOverRange, IsWayDown}
 
@@ -41,3 +41,10 @@ pub record IsBlockOf (f : Layout) (x : Extent) (log2 level : ℕ) : Type 0 where
   pub size : log2 ≡ first_size f x
   pub high : f.index * level ≤ log2
   pub whole : x.end ≡ x.first + 2 ^ log2
+
+-- an extent is a run of so many equal blocks, of the table of this level or of one above
+pub record IsRunOf (f : Layout) (x : Extent) (log2 level count : ℕ) : Type 0 where
+  pub size : log2 ≡ first_size f x
+  pub high : f.index * level ≤ log2
+  pub run : IsRun f x count
+  pub whole : x.end ≡ x.first + count * 2 ^ log2

@@ -7,10 +7,10 @@ ghost use Rattle.pt_format.specs.Words.{GoBy};
 ghost use Rattle.pt_tile.specs.Extents.{IsFirstTo, up_to};
 ghost use Rattle.pt_view.specs.Views.{Stays};
 ghost use Rattle.pt_view.specs.Pieces as pieces;
-ghost use Rattle.pt_map.specs.Stands.{IsEntryExtent};
-ghost use Rattle.pt_map.specs.Filled.{Fills, HasRoom, IsDeeper, MayFill, MayGoInto, MayStoreRun, Spends, SpendsOn, StoresRun, next_table};
+ghost use Rattle.pt_map.specs.Stands.{IsEntryExtent, IsRunOf};
+ghost use Rattle.pt_map.specs.Filled.{Fills, HasRoom, IsDeeper, MayFill, MayGoInto, MayStore, MayStoreRun, Spends, SpendsOn, StoresRun, next_table};
 
-use crate::entry::under_entry;
+use crate::entry::{is_under_one, under_entry};
 use pt_format::{Block, Format, WordRun};
 use pt_num::align_down;
 use pt_tile::Extent;
@@ -24,6 +24,10 @@ pub(crate) fn fill<F: Format, H: Holder<F>>(holder: &mut H, level: u32, extent: 
     ensures stays { Stays H.space H.aside H.alone holder.old holder.new }
     ensures fills { Fills F.layout H.tells (H.view holder.old) (H.view holder.new) extent level }
 {
+    if is_under_one::<F>(level, extent) {
+        fill_entry::<F, H>(holder, level, extent);
+        return;
+    }
     let mut rest = extent;
     while rest.first < rest.end {
         let to = fill_first::<F, H>(holder, level, rest);
@@ -100,6 +104,29 @@ fn link<F: Format, H: Holder<F>>(holder: &mut H, level: u32, number: u32, page: 
     }
 }
 
+/// Writes an extent that is a run of so many equal blocks of the path's last table, of this level: by one call, where
+/// their words go by one step.
+#[inline(always)]
+pub(crate) fn fill_run<F: Format, H: Holder<F>>(
+    holder: &mut H,
+    level: u32,
+    extent: Extent,
+    log2: u32,
+    count: u64,
+)
+    requires may { MayStore F.layout (H.view holder.old) extent level }
+    requires run { IsRunOf F.layout extent log2 level count }
+    ensures stays { Stays H.space H.aside H.alone holder.old holder.new }
+    ensures fills { Fills F.layout H.tells (H.view holder.old) (H.view holder.new) extent level }
+{
+    let run = F::word_run(level, log2, extent.out, extent.prot, count);
+    if run.blocks == count {
+        write_run::<F, H>(holder, level, extent.block(log2), run);
+    } else {
+        fill::<F, H>(holder, level, extent);
+    }
+}
+
 /// Stores the word of a block of one entry in the path's last table, of this level.
 pub(crate) fn write_entry<F: Format, H: Holder<F>>(holder: &mut H, level: u32, block: Block)
     requires may { MayStoreRun F.layout (H.view holder.old) 1 block level }
@@ -113,7 +140,7 @@ pub(crate) fn write_entry<F: Format, H: Holder<F>>(holder: &mut H, level: u32, b
 
 /// Stores the words of so many equal blocks that follow each other in the path's last table, of this level.
 /// `block` is the first; the words go by the run's step.
-#[inline(never)]
+#[inline(always)]
 pub(crate) fn write_run<F: Format, H: Holder<F>>(
     holder: &mut H,
     level: u32,

@@ -7,11 +7,11 @@ ghost use Rattle.pt_tile.specs.Extents as extents;
 ghost use Rattle.pt_view.specs.Views.{Stays, linked_count};
 ghost use Rattle.pt_walk.specs.Walks.{Rests};
 ghost use Rattle.pt_map.specs.Answers.{Accounts, Answers, extent_at};
-ghost use Rattle.pt_map.specs.Stands.{IsBlockOf};
+ghost use Rattle.pt_map.specs.Stands.{IsBlockOf, IsRunOf};
 ghost use Rattle.pt_map.specs.Requests.{EndsBelow, Gathers, IsRefusedByNumbers, IsRequested, MayMap, MayMapBelow, occupied};
 
 use crate::beyond::map_beyond;
-use crate::fill::{fill, write_entry, write_run};
+use crate::fill::{fill, fill_run, write_entry};
 use crate::refused::MapRefused;
 use crate::replace::make_way;
 use crate::survey::{Found, survey};
@@ -19,7 +19,7 @@ use pt_format::{Format, Prot, Span, byte_of, is_whole, range_of};
 use pt_sweep::draw;
 use pt_tile::Extent;
 use pt_view::Holder;
-use pt_walk::{Under, climb, descend, first_at, first_below, spine_end};
+use pt_walk::{Under, climb, descend, first_at, look_below, spine_end};
 
 /// The extent that a request is, where its range may be mapped in a span by its numbers alone.
 fn extent_in<F: Format>(
@@ -80,7 +80,7 @@ pub(crate) fn gather<F: Format, H: Holder<F>>(holder: &mut H, absent: u64) -> Re
 
 /// Maps an extent of any blocks from the path's last table, of this level, or refuses it.
 #[inline(never)]
-fn map_below<F: Format, H: Holder<F>>(
+fn map_parts<F: Format, H: Holder<F>>(
     holder: &mut H,
     level: u32,
     extent: Extent,
@@ -104,8 +104,59 @@ fn map_below<F: Format, H: Holder<F>>(
     }
 }
 
-/// The same, for an extent that is one block of several entries of that table.
+/// The same, for an extent that is a run of so many equal blocks of that table: it needs no further table.
 #[inline(never)]
+fn map_run<F: Format, H: Holder<F>>(
+    holder: &mut H,
+    level: u32,
+    extent: Extent,
+    log2: u32,
+    count: u64,
+) -> Result<(), MapRefused>
+    requires may { MayMapBelow F.layout (H.view holder.old) extent level }
+    requires run { IsRunOf F.layout extent log2 level count }
+    ensures stays { Stays H.space H.aside H.alone holder.old holder.new }
+    ensures ends { EndsBelow F.layout H.tells (H.alone holder.old) (linked_count (H.view holder.old) (H.aside holder.old))
+        (H.view holder.old) (H.view holder.new) extent level result }
+{
+    let under = look_below::<F, H>(holder, level, extent.first, extent.end);
+    if let Under::Mapped { page } = under {
+        return Err(MapRefused::Occupied {
+            address: byte_of::<F>(page),
+        });
+    }
+    // what the purse tells of the account of frames is part of the answer
+    let _held = holder.purse();
+    make_way::<F, H>(holder, level, extent, under.has_tables());
+    fill_run::<F, H>(holder, level, extent, log2, count);
+    Ok(())
+}
+
+/// The same, for an extent of any blocks, of which the first has `2^log2` pages.
+#[inline(always)]
+fn map_below<F: Format, H: Holder<F>>(
+    holder: &mut H,
+    level: u32,
+    extent: Extent,
+    log2: u32,
+) -> Result<(), MapRefused>
+    requires may { MayMapBelow F.layout (H.view holder.old) extent level }
+    requires size { log2 ≡ extents.first_size F.layout extent }
+    requires small { log2 < 64 }
+    requires high { F.layout.index * level ≤ log2 }
+    ensures stays { Stays H.space H.aside H.alone holder.old holder.new }
+    ensures ends { EndsBelow F.layout H.tells (H.alone holder.old) (linked_count (H.view holder.old) (H.aside holder.old))
+        (H.view holder.old) (H.view holder.new) extent level result }
+{
+    let count = extent.run::<F>(log2);
+    if extent.end - extent.first == count << log2 {
+        map_run::<F, H>(holder, level, extent, log2, count)
+    } else {
+        map_parts::<F, H>(holder, level, extent)
+    }
+}
+
+/// The same, for an extent that is one block of several entries of that table.
 fn map_entries<F: Format, H: Holder<F>>(
     holder: &mut H,
     level: u32,
@@ -118,18 +169,7 @@ fn map_entries<F: Format, H: Holder<F>>(
     ensures ends { EndsBelow F.layout H.tells (H.alone holder.old) (linked_count (H.view holder.old) (H.aside holder.old))
         (H.view holder.old) (H.view holder.new) extent level result }
 {
-    let under = first_below::<F, H>(holder, level, extent.first, extent.end);
-    if let Under::Mapped { page } = under {
-        return Err(MapRefused::Occupied {
-            address: byte_of::<F>(page),
-        });
-    }
-    // what the purse tells of the account of frames is part of the answer
-    let _held = holder.purse();
-    make_way::<F, H>(holder, level, extent, under.has_tables());
-    let run = F::word_run(level, log2, extent.out, extent.prot, 1);
-    write_run::<F, H>(holder, level, extent.block(log2), run);
-    Ok(())
+    map_run::<F, H>(holder, level, extent, log2, 1)
 }
 
 /// The same, for an extent that is one block of one entry of that table.
@@ -197,10 +237,12 @@ fn map_at<F: Format, H: Holder<F>>(
     ensures ends { EndsBelow F.layout H.tells (H.alone holder.old) (linked_count (H.view holder.old) (H.aside holder.old))
         (H.view holder.old) (H.view holder.new) extent level result }
 {
-    if log2 >= F::INDEX * level && extent.end - extent.first == 1 << log2 {
+    if log2 < F::INDEX * level {
+        map_parts::<F, H>(holder, level, extent)
+    } else if extent.end - extent.first == 1 << log2 {
         map_block::<F, H>(holder, level, extent, log2)
     } else {
-        map_below::<F, H>(holder, level, extent)
+        map_below::<F, H>(holder, level, extent, log2)
     }
 }
 

@@ -9,22 +9,27 @@ ghost use Rattle.pt_view.specs.Views.{Stays};
 ghost use Rattle.pt_map.specs.Stands.{IsEntryExtent};
 ghost use Rattle.pt_map.specs.Absent.{MaySurvey, Surveyed};
 
-use crate::entry::under_entry;
+use crate::entry::{is_under_one, under_entry};
 use pt_format::Format;
 use pt_num::Span;
 use pt_tile::{Extent, tables_needed};
 use pt_view::{Holder, Seen};
-use pt_walk::{Under, entry_number, first_below};
+use pt_walk::{Under, entry_number, look_below};
 
 /// How many of the tables below a level that an extent under one entry needs there are, where none is linked
 /// under that entry; `cap` where there are more. The entry is one of a table of that level.
 fn needed_below<F: Format>(extent: Extent, level: u32, cap: u64) -> u64
     requires extent { IsExtent F.layout extent }
     requires level { level < F.layout.levels }
+    requires high { 0 < level }
     requires one { LiesUnderEntry F.layout extent level }
     requires cap { cap ≤ 2 ^ 32 }
     ensures { result ≡ min cap (length (tables_below F.layout extent level)) }
 {
+    if is_under_one::<F>(1, extent) {
+        // under one table of level 0 it needs one of each level
+        return u64::min(cap, u64::from(level));
+    }
     let span = Span {
         first: extent.first,
         count: extent.end - extent.first,
@@ -59,7 +64,7 @@ fn look<F: Format, H: Holder<F>>(holder: &mut H, level: u32, extent: Extent, cap
     ensures stays { Stays H.space H.aside H.alone holder.old holder.new }
     ensures surveyed { Surveyed F.layout H.tells (H.alone holder.old) (H.view holder.old) (H.view holder.new) extent level cap result }
 {
-    match first_below::<F, H>(holder, level, extent.first, extent.end) {
+    match look_below::<F, H>(holder, level, extent.first, extent.end) {
         Under::Mapped { page } => Found::Mapped { page },
         Under::Tables => Found::Absent {
             count: 0,
@@ -86,6 +91,9 @@ pub(crate) fn survey<F: Format, H: Holder<F>>(
 {
     if level == 0 {
         return look::<F, H>(holder, level, extent, cap);
+    }
+    if is_under_one::<F>(level, extent) {
+        return survey_under::<F, H>(holder, level, extent, cap);
     }
     let mut rest = extent;
     let mut absent = 0;

@@ -1,5 +1,5 @@
 -- What a step says of a view holds of one that agrees with it, over a holder of the whole space that tells no histories.
-use Rattle.std.proofs.Common.{ℕ, Bool, ◌∙◌, ap, sym, List, ◌∷◌, true, false}
+use Rattle.std.proofs.Common.{ℕ, Bool, ◌∙◌, ap, sym, List, ◌∷◌, ◌++◌, true, false}
 use Rattle.std.specs.Prelude.{◌↔◌}
 use Rattle.pt_model.specs.declared.position.Position.{Position}
 use Rattle.pt_model.specs.Layout.{Layout}
@@ -9,7 +9,7 @@ use Rattle.pt_view.specs.declared.holder.Seen.TheVariants.{Empty, Leaf, Entered}
 use Rattle.pt_view.specs.declared.holder.Won.{Won}
 use Rattle.pt_view.specs.declared.holder.Won.TheVariants.{Yes, Met}
 use Rattle.pt_view.proofs.Stays.{book_on, purse_on, range_on}
-use Rattle.pt_view.specs.Calls.{Grows, IsCleared, IsGrown, IsInstalled, IsPlaced, IsTaken, IsUnlinked, IsUnplaced, IsWritten, Looked, Prepares, Rooted, Takes, Went, zero, leaf, table}
+use Rattle.pt_view.specs.Calls.{Grows, IsCleared, IsFreed, IsGrown, IsInstalled, IsPlaced, IsTaken, IsUnlinked, IsUnplaced, IsWritten, Looked, Prepares, Rooted, Takes, Went, zero, leaf, table}
 use Rattle.pt_rule.specs.Meets.{Always, IsWhole}
 use Rattle.pt_plain.proofs.ReadBack.{Agrees}
 
@@ -76,6 +76,19 @@ module _ {v u w : View} (a : Agrees u w) where
     prepared = a.same.prepared ∙ r.prepared;
     end = a.same.purse.end ∙ r.end;
     takes = takes_on won frame v u w a r.takes;
+    busy = λ x. through (r.busy x) (a.busy x);
+    known = λ p. through (r.known p) (a.known p);
+    told = λ no. absurd no;
+  }
+
+  pub freed_on : {frames : List ℕ} → IsFreed Always frames v u → IsFreed ⊥ frames v w
+  freed_on {frames = frames} r = record {
+    range = range_on r.range a.same.range;
+    book = book_on r.book a.same.book;
+    path = a.same.path ∙ r.path;
+    prepared = a.same.prepared ∙ r.prepared;
+    purse = r.purse ∙ ap (λ (xs : List ℕ). frames ++ xs) (sym a.same.purse.purse);
+    end = a.same.purse.end ∙ r.end;
     busy = λ x. through (r.busy x) (a.busy x);
     known = λ p. through (r.known p) (a.known p);
     told = λ no. absurd no;

@@ -137,6 +137,7 @@ module _ {f : Layout} (laws : Laws f) {o : Fields} (own : IsOwner f o) (asked : 
         within = λ g h. busy_within own g ((r.busy g).0 h);
         busy = λ g lt some. (r.busy g).1 (busy_here own g lt (λ z. some (tag_kept words stores g lt ∙ z)));
         known = known_there;
+        taken = λ g h. (r.busy g).1 (own.taken g h);
       })
       (λ v w. IsGrown f ⊥ (Unit {0}) v Yes w) (λ a. grown_on a (whole own) r)
 

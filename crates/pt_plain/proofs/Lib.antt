@@ -16,6 +16,7 @@ mod TagCalls
 mod EntryCalls
 mod UnlinkCalls
 mod GrowCalls
+mod RunLooks
 mod RunCalls
 mod ClearRunCalls
 mod NewWords

@@ -68,9 +68,9 @@ module _ (f : Layout) (good : IsLayout f) (n l hold : ℕ) (zeros words : List �
 
 -- what a new space's words and fields are
 pub record Made (f : Layout) (n l hold : ℕ) (words : List ℕ) (head : Option ℕ) (path : List ℕ) : Type 0 where
-  pub owner : IsOwner f (whole_fields f words n l head hold path l None)
-  pub opened : IsOpened f n l hold (span_view f (whole_fields f words n l head hold path l None))
-  pub aside : aside_of f (whole_fields f words n l head hold path l None) ≡ none_aside
+  pub owner : IsOwner f (whole_fields f words n l head hold path l None 0)
+  pub opened : IsOpened f n l hold (span_view f (whole_fields f words n l head hold path l None 0))
+  pub aside : aside_of f (whole_fields f words n l head hold path l None 0) ≡ none_aside
 
 module _ {f : Layout} (laws : Laws f) {n l hold : ℕ} {words : List ℕ} (new : IsNew f n l hold words) (limit : n ≤ frame_limit f) (room : hold < n) (low : f.start ≤ l) (high : l ≤ f.levels)
     (path : List ℕ) (eight : length path ≡ 8) where
@@ -78,7 +78,7 @@ module _ {f : Layout} (laws : Laws f) {n l hold : ℕ} {words : List ℕ} (new :
   u = opening_view f n l hold
 
   abbrev o : Fields
-  o = whole_fields f words n l (first_or None (counting 1 hold)) hold path l None
+  o = whole_fields f words n l (first_or None (counting 1 hold)) hold path l None 0
 
   lawful_u : Lawful f n l words (u ∷ [])
   lawful_u = new_is_lawful f n l hold words laws.layout limit room low high new
@@ -99,7 +99,7 @@ module _ {f : Layout} (laws : Laws f) {n l hold : ℕ} {words : List ℕ} (new :
   span = record { first_is = refl; count_is = refl }
 
   new_owner : IsOwner f o
-  new_owner = owner laws lawful_u refl span matches_u
+  new_owner = owner laws lawful_u refl span matches_u (λ g less. absurd (omega arith))
 
   opened : IsOpened f n l hold (whole_view f o)
   opened = let a = shows laws lawful_u refl span matches_u in record {

@@ -7,6 +7,7 @@ use Rattle.pt_model.specs.Words.{root_frame, root_level}
 use Rattle.pt_view.specs.declared.view.View.{View}
 use Rattle.pt_view.specs.declared.view.Node.{Node}
 use Rattle.pt_view.specs.Calls.{Rooted, left, all_but_last}
+use Rattle.pt_view.specs.Lists.{IsIn}
 use Rattle.pt_view.proofs.Paths.{front_snoc}
 use Rattle.pt_rule.specs.Lawful.{Lawful}
 use Rattle.pt_rule.specs.Kinds.{after, load_root}
@@ -75,6 +76,7 @@ module _ {f : Layout} {o : Fields} (own : IsOwner f o) (some : 0 < length (whole
     low = let e = count_is in omega arith;
     levels_are = λ at low up. own.levels_are at (omega arith) up;
     eight = own.eight;
+    taken = λ g h. subst (λ (w : View). IsIn w.busy g) (sym leaves) (own.taken g h);
   }
 
 pub leave : {f : Layout} {o : Fields} (own : IsOwner f o) → 0 < length (span_view f o).path → Left own

@@ -15,7 +15,7 @@ use Rattle.pt_view.specs.declared.view.View.{View}
 use Rattle.pt_view.specs.declared.view.Node.{Node}
 use Rattle.pt_view.specs.declared.view.Prepared.{Prepared}
 use Rattle.pt_view.specs.Lists.{IsIn, SameFrames}
-use Rattle.pt_view.specs.Calls.{meets_span}
+use Rattle.pt_view.specs.Calls.{HasFramesBelow, meets_span}
 use Rattle.pt_view.specs.Views.{SameBook, SamePurse, SameRange}
 use Rattle.pt_rule.specs.Tags.{Chained, first_or}
 use Rattle.pt_rule.specs.Totals.{has_table, total}
@@ -32,11 +32,12 @@ use Rattle.pt_plain.proofs.Owners.{shown}
 use Rattle.pt_plain.proofs.Paths.{AreTagged, levels_back, nodes_back}
 use Rattle.pt_plain.proofs.Known.{known_cases, known_spine, known_table}
 
--- a view that has found busy what isn't free, and found linked what is in its tree
+-- a view that has found busy what isn't free and what lies below the number of the fields, and found linked what is in its tree
 pub record Noted (o : Fields) (u : View) : Type 0 where
   pub within : (g : ℕ) → IsIn u.busy g → g < o.frames
   pub busy : (g : ℕ) → g < o.frames → tag o.words g ≢ 0 → IsIn u.busy g
   pub known : (p : Position) → IsAmong (known_in o.levels u.tables u.top) p → IsAmong u.known p
+  pub taken : HasFramesBelow u o.taken_below
 
 -- two views that differ in what they have met alone
 pub record Shows (u w : View) : Type 0 where
@@ -153,8 +154,8 @@ module _ {f : Layout} (laws : Laws f) {o : Fields} {u : View} (r : Lawful f o.fr
     );
   }
 
-  pub owner : IsOwner f o
-  owner =
+  pub owner : HasFramesBelow w o.taken_below → IsOwner f o
+  owner taken =
       let depth = m.path.depth in record {
         lawful = views_note f o.frames o.levels o.words (u ∷ []) 0 u w r refl live (record {
           range = shows.range;
@@ -172,4 +173,5 @@ module _ {f : Layout} (laws : Laws f) {o : Fields} {u : View} (r : Lawful f o.fr
         low = omega arith;
         levels_are = λ at low up. levels_back o.words o.path o.level (root_level o.words + 1) u.path m.path.follows depth tagged at low (omega arith);
         eight = m.path.eight;
+        taken = taken;
       }

@@ -1,7 +1,6 @@
 -- Words of which a run is set to zero, and how many of them weren't.
-use Rattle.std.proofs.Common.{◌≡◌, ◌≢◌, ℕ, zero, suc, Bool, true, false, ◌+◌, ◌*◌, ◌≤◌, List, refl, ap, sym, ◌∙◌, arith, add-one, eq-eqb, get_or-set_other}
+use Rattle.std.proofs.Common.{◌≡◌, ℕ, zero, suc, ◌+◌, ◌*◌, ◌≤◌, List, refl, ap, sym, ◌∙◌, arith, add-one, get_or-set_other}
 use Rattle.std.specs.Prelude.{◌==◌, not, slice_index, slice_set}
-use Rattle.std.proofs.lemmas.Bool.{ne_eqb}
 use Rattle.pt_model.specs.Sets.{one_if}
 use Rattle.pt_plain.specs.Owner.{nonzero_in, set_run}
 
@@ -17,24 +16,6 @@ zeros_more words place i =
     let none : 0 ≡ 0 + i * 0 = omega arith in
     (λ j. slice_set (set_run words place i 0 0) (place + i) (none j)) ∙ ap (λ (k : ℕ). set_run words place k 0 0) (sym (add-one i))
 
-one_at_most : (b : Bool) → one_if b ≤ 1
-one_at_most true = omega arith
-one_at_most false = omega arith
-
-pub nonzero_few : (words : List ℕ) (place count : ℕ) → nonzero_in words place count ≤ count
-nonzero_few words place zero = omega arith
-nonzero_few words place (suc count) =
-    let rest = nonzero_few words place count in
-    let one = one_at_most (not (slice_index words (place + count) == 0)) in
-    omega arith
-
-nonzero_more : (words : List ℕ) (place i : ℕ) (b : Bool) → (slice_index words (place + i) == 0) ≡ b → nonzero_in words place i + one_if (not b) ≡ nonzero_in words place (i + 1)
-nonzero_more words place i b e = (λ j. nonzero_in words place i + one_if (not (sym e j))) ∙ ap (nonzero_in words place) (sym (add-one i))
-
--- one word more isn't zero, or is
-pub some_more : (words : List ℕ) (place i : ℕ) → slice_index words (place + i) ≢ 0 → nonzero_in words place i + 1 ≡ nonzero_in words place (i + 1)
-some_more words place i some = nonzero_more words place i false (ne_eqb (slice_index words (place + i)) 0 some)
-
-pub none_more : (words : List ℕ) (place i : ℕ) → slice_index words (place + i) ≡ 0 → nonzero_in words place i ≡ nonzero_in words place (i + 1)
-none_more words place i none =
-    let more : nonzero_in words place i + 0 ≡ nonzero_in words place (i + 1) = nonzero_more words place i true (eq-eqb (slice_index words (place + i)) 0 none) in omega arith
+-- with one word more
+pub nonzero_more : (words : List ℕ) (place i : ℕ) → nonzero_in words place i + one_if (not (slice_index words (place + i) == 0)) ≡ nonzero_in words place (i + 1)
+nonzero_more words place i = ap (nonzero_in words place) (sym (add-one i))

@@ -78,6 +78,7 @@ module _ {f : Layout} {o : Fields} (own : IsOwner f o) where
     within = λ g h. busy_within g ((same g).0 h);
     busy = λ g lt some. (same g).1 (busy_here g lt (tags g lt some));
     known = known_after u keeps joins top;
+    taken = λ g h. (same g).1 (own.taken g h);
   }
 
 -- fields that are those of a view after a step are an owner's, and what is said of the view is said of theirs
@@ -85,4 +86,5 @@ pub read_back : {f : Layout} (laws : Laws f) {o : Fields} (own : IsOwner f o) (u
     Matches o' u → Noted o' u → (Call : View → View → Type 0) → (Agrees u (whole_view f o') → Call (whole_view f o) (whole_view f o')) → Does f o o' Call
 read_back laws own u o' r range span m noted Call says =
     let all = range.count ∙ whole own in
-    does Call own (owner laws r all span m) (says (agrees laws r all span m noted))
+    let a = agrees laws r all span m noted in
+    does Call own (owner laws r all span m (λ g h. (a.busy g).1 (noted.taken g h))) (says a)

@@ -223,6 +223,7 @@ module _ {f : Layout} (laws : Laws f) {o : Fields} (own : IsOwner f o) (number :
         busy = λ g lt some. (r.busy g).1 (busy_here own g lt (λ z. tags_before cut_words child (held_word o.head) was_placed g
             (λ none. some (ap (λ (ws : List ℕ). tag ws g) stores ∙ none)) (tag_kept g lt ∙ z)));
         known = known_there;
+        taken = λ g h. (r.busy g).1 (own.taken g h);
       })
       (λ v w. IsUnlinked f ⊥ number v w) (λ a. unlinked_on a r)
 

@@ -1,8 +1,7 @@
 -- What the words of one owner, and the few fields beside them, say: the rule's view of the whole space, the holder's
 -- view of its span, and what is set aside.
-use Rattle.std.specs.Prelude.{◌≡◌, ℕ, zero, suc, ◌+◌, ◌-◌, ◌*◌, ◌/◌, ◌≤◌, ◌==◌, List, [], ◌∷◌, ◌++◌, length, map, filter, not, ◌&&◌, Option, Some, None, slice_index, slice_set, if◌then◌else◌}
+use Rattle.std.specs.Prelude.{◌≡◌, ℕ, zero, suc, ◌+◌, ◌-◌, ◌*◌, ◌/◌, ◌<◌, ◌≤◌, ◌==◌, List, [], ◌∷◌, ◌++◌, length, map, filter, not, ◌&&◌, Option, Some, None, slice_index, slice_set, if◌then◌else◌}
 use Rattle.pt_model.specs.declared.position.Position.{Position}
-use Rattle.pt_model.specs.declared.block.Block.{Block}
 use Rattle.pt_model.specs.Layout.{Layout, input_pages}
 use Rattle.pt_model.specs.Sets.{one_if}
 use Rattle.pt_model.specs.Tables.{levels_between, spine_position, starting_top}
@@ -13,6 +12,7 @@ use Rattle.pt_view.specs.declared.view.Prepared.{Prepared}
 use Rattle.pt_model.specs.Book.{lies_in}
 use Rattle.pt_view.specs.declared.view.Piece.{Piece}
 use Rattle.pt_view.specs.Views.{Aside, IsAtRest}
+use Rattle.pt_view.specs.Calls.{HasFramesBelow}
 use Rattle.pt_rule.specs.Cuts.{is_near, table_in}
 use Rattle.pt_rule.specs.Tags.{first_or}
 use Rattle.pt_rule.specs.Lawful.{Lawful}
@@ -21,7 +21,7 @@ use Rattle.pt_rule.specs.WholeView.{tables_in, pieces_in}
 
 -- The fields of an owner: the words, the frames of the space and the levels that it started with; the span; the first
 -- of the frames held, and their number; the frame of the table of each level of the path, down to `level`; the frame
--- that is about to be linked. Until a holder is narrowed the span is the whole space.
+-- that is about to be linked; a number below which no frame is free. Until a holder is narrowed the span is the whole space.
 pub record Fields : Type 0 where
   pub words : List ℕ
   pub frames : ℕ
@@ -33,11 +33,12 @@ pub record Fields : Type 0 where
   pub path : List ℕ
   pub level : ℕ
   pub prepared : Option ℕ
+  pub taken_below : ℕ
 
 -- the fields of an owner that spans the whole space
 abbrev pub whole_fields : Layout → (words : List ℕ) → (frames levels : ℕ) → (head : Option ℕ) → (held : ℕ) →
-    (path : List ℕ) → (level : ℕ) → (prepared : Option ℕ) → Fields
-whole_fields f words frames levels head held path level prepared = record {
+    (path : List ℕ) → (level : ℕ) → (prepared : Option ℕ) → (taken_below : ℕ) → Fields
+whole_fields f words frames levels head held path level prepared taken_below = record {
   words = words;
   frames = frames;
   levels = levels;
@@ -48,6 +49,7 @@ whole_fields f words frames levels head held path level prepared = record {
   path = path;
   level = level;
   prepared = prepared;
+  taken_below = taken_below;
 }
 
 -- what callers see: the words, the holder's view of its span, and what is set aside outside it
@@ -60,6 +62,10 @@ pub record Owned : Type 0 where
 abbrev pub set_run : (words : List ℕ) → (place count word step : ℕ) → List ℕ
 set_run words place zero word step = words
 set_run words place (suc count) word step = slice_set (set_run words place count word step) (place + count) (word + count * step)
+
+-- so many words from a place on are all zero
+abbrev pub IsZeroRun : (words : List ℕ) → (place count : ℕ) → Type 0
+IsZeroRun words place count = (i : ℕ) → i < count → slice_index words (place + i) ≡ 0
 
 -- how many of so many words from a place on aren't zero
 abbrev pub nonzero_in : (words : List ℕ) → (place count : ℕ) → ℕ
@@ -95,6 +101,10 @@ prepared_at words (Some frame) = Some (record { frame = frame; position = placed
 abbrev pub busy_in : (words : List ℕ) → (n : ℕ) → List ℕ
 busy_in words zero = []
 busy_in words (suc frame) = if tag words frame == 0 then busy_in words frame else frame ∷ busy_in words frame
+
+-- the number below which no frame is free, where it was so below `number`, and this frame is found not free or taken
+abbrev pub taken_upto : (number frame : ℕ) → ℕ
+taken_upto number frame = if frame == number then frame + 1 else number
 
 -- the positions of the tree: its tables, and the spine up to its top
 abbrev pub known_in : (l : ℕ) → (tables : List Position) → (top : ℕ) → List Position
@@ -154,7 +164,7 @@ pub record HasWholeSpan (f : Layout) (first count : ℕ) : Type 0 where
   pub count_is : count ≡ input_pages f
 
 -- What holds of the fields: the words meet the rule with the view of the whole space, which the span is, the purse is
--- all of the chain, and the table of each level of the path is placed at that level.
+-- all of the chain, the table of each level of the path is placed at that level, and the frames below a number aren't free.
 pub record IsOwner (f : Layout) (o : Fields) : Type 0 where
   pub lawful : Lawful f o.frames o.levels o.words (whole_view f o ∷ [])
   pub span : HasWholeSpan f o.first o.count
@@ -163,6 +173,7 @@ pub record IsOwner (f : Layout) (o : Fields) : Type 0 where
   pub low : o.level ≤ root_level o.words + 1
   pub levels_are : (at : ℕ) → o.level ≤ at → at ≤ root_level o.words → (node_at o.words o.path at).position.level ≡ at
   pub eight : length o.path ≡ 8
+  pub taken : HasFramesBelow (whole_view f o) o.taken_below
 
 -- nothing is set aside
 abbrev pub none_aside : Aside
@@ -178,7 +189,3 @@ pub record IsOpened (f : Layout) (n l hold : ℕ) (v : View) : Type 0 where
   pub tables : v.tables ≡ []
   pub top : v.top ≡ starting_top l
   pub purse : v.purse ≡ counting 1 hold
-
--- some blocks are those of a view at rest
-abbrev pub Rests : Layout → View → Type 0
-Rests f v = (blocks : List Block) × IsAtRest f v blocks

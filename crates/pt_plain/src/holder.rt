@@ -1,13 +1,34 @@
 //! The calls of a holder, by plain reads and writes.
 
+ghost use Rattle.std.specs.Prelude.{◌≡◌, ℕ, ◌<◌, [], ◌∷◌, length};
+ghost use Rattle.pt_view.specs.Calls.{IsFreed};
+
 use crate::plain::Plain;
 use crate::words::{
-    entry, frame_address, frame_named, held_word, next_in, placed_word, root_level, set_entry,
-    set_root, set_run, set_tag, tag_of, zero_run,
+    entry, frame_address, frame_named, held_word, is_zero_run, next_in, placed_word, root_level,
+    set_entry, set_root, set_run, set_tag, tag_of, taken_upto, zero_run,
 };
 use pt_format::Format;
 use pt_num::Span;
 use pt_view::{Holder, Seen, Won};
+
+impl<F: Format> Plain<F> {
+    /// Frees the first frame of the purse.
+    fn free_first(&mut self)
+        requires { 0 < length self.old.view.purse }
+        ensures freed { (frame : ℕ) × IsFreed ⊥ (frame ∷ []) self.old.view self.new.view }
+        ensures aside { self.new.aside ≡ self.old.aside }
+    {
+        let Some(frame) = self.head else {
+            unreachable!()
+        };
+        let next = next_in(tag_of(&self.words, frame));
+        set_tag(&mut self.words, frame, 0);
+        self.head = next;
+        self.held -= 1;
+        self.taken_below = u32::min(self.taken_below, frame);
+    }
+}
 
 impl<F: Format> Holder<F> for Plain<F> {
     type Space = ();
@@ -43,6 +64,11 @@ impl<F: Format> Holder<F> for Plain<F> {
         self.path[level as usize - 1] = frame_named::<F>(F::address_of(level, word));
         self.level = level - 1;
         Seen::Entered
+    }
+
+    fn empty_run(&mut self, first: u32, count: u32) -> bool {
+        let frame = self.path[self.level as usize];
+        is_zero_run::<F>(&self.words, self.frames, frame, first, count)
     }
 
     fn leave(&mut self) {
@@ -145,6 +171,7 @@ impl<F: Format> Holder<F> for Plain<F> {
     }
 
     fn take(&mut self, frame: u32) -> bool {
+        self.taken_below = taken_upto(self.taken_below, frame);
         if tag_of(&self.words, frame) != 0 {
             return false;
         }
@@ -152,6 +179,16 @@ impl<F: Format> Holder<F> for Plain<F> {
         self.head = Some(frame);
         self.held += 1;
         true
+    }
+
+    fn release(&mut self) {
+        for _ in 0..self.held {
+            self.free_first();
+        }
+    }
+
+    fn known_taken(&self) -> u32 {
+        self.taken_below
     }
 
     fn purse(&self) -> u32 {

@@ -5,7 +5,8 @@ ghost use Rattle.pt_model.specs.Words.{frame_limit, tag};
 ghost use Rattle.pt_rule.specs.Lawful.{Lawful};
 ghost use Rattle.pt_rule.specs.Tags.{first_or};
 ghost use Rattle.pt_rule.specs.Opening.{IsNew, counting};
-ghost use Rattle.pt_plain.specs.Owner.{IsOpened, Rests, none_aside};
+ghost use Rattle.pt_plain.specs.Owner.{IsOpened, none_aside};
+ghost use Rattle.pt_view.specs.Views.{Rests};
 ghost use Rattle.pt_plain.specs.Chains.{IsChain, IsKept};
 
 use crate::words::{held_word, placed_word, set_tag, word_count};
@@ -29,6 +30,8 @@ pub struct Plain<F: Format> {
     pub(crate) path: [u32; 8],
     pub(crate) level: u32,
     pub(crate) prepared: Option<u32>,
+    /// No frame below it is free, so that a draw begins there.
+    pub(crate) taken_below: u32,
     pub(crate) format: PhantomData<F>,
 }
 
@@ -38,10 +41,10 @@ impl<F: Format> Model for Plain<F> {
     ghost Value = { Owned };
 
     ghost view = { λ p.
-        owned F.layout (whole_fields F.layout p.words.items p.frames p.levels p.head p.held p.path p.level p.prepared) };
+        owned F.layout (whole_fields F.layout p.words.items p.frames p.levels p.head p.held p.path p.level p.prepared p.taken_below) };
 
     ghost invariant = { λ p.
-        IsOwner F.layout (whole_fields F.layout p.words.items p.frames p.levels p.head p.held p.path p.level p.prepared) };
+        IsOwner F.layout (whole_fields F.layout p.words.items p.frames p.levels p.head p.held p.path p.level p.prepared p.taken_below) };
 }
 
 /// Chains the frames from 1 to `hold`: the tag of each names the next one, and the last one's names none.
@@ -93,6 +96,7 @@ impl<F: Format> Plain<F> {
             path: [0; 8],
             level: levels,
             prepared: None,
+            taken_below: 0,
             format: PhantomData,
         })
     }
@@ -112,6 +116,7 @@ impl<F: Format> Plain<F> {
             path: _,
             level: _,
             prepared: _,
+            taken_below: _,
             format: _,
         } = self;
         words

@@ -1,6 +1,6 @@
 //! The words of a space: where they stand, and how a tag, a pointer and an entry are read and written.
 
-ghost use Rattle.std.specs.Prelude.{◌≡◌, ℕ, ◌+◌, ◌*◌, ◌%◌, ◌^◌, false, ◌<◌, ◌≤◌, length, Option, Some, None, slice_set};
+ghost use Rattle.std.specs.Prelude.{◌≡◌, ℕ, ◌+◌, ◌*◌, ◌%◌, ◌^◌, false, ◌<◌, ◌≤◌, IsTrue, length, Option, Some, None, slice_set};
 ghost use Rattle.pt_model.specs.Words as words_are;
 ghost use Rattle.pt_model.specs.Words.{frame_limit, tag, entry_of};
 ghost use Rattle.pt_format.specs.Words.{IsTableAddress};
@@ -135,6 +135,29 @@ pub(crate) fn set_run<F: Format>(
     }
 }
 
+/// Whether `count` entries of a frame from number `first` on are all zero.
+pub(crate) fn is_zero_run<F: Format>(
+    words: &[u64],
+    frames: u32,
+    frame: u32,
+    first: u32,
+    count: u32,
+) -> bool
+    requires few { frames ≤ frame_limit F.layout }
+    requires a_frame { frame < frames }
+    requires some { 0 < count }
+    requires inside { first + count ≤ 2 ^ F.layout.index }
+    requires long { length words.now ≡ words_are.word_count F.layout frames }
+    ensures { IsTrue result → owner.IsZeroRun words.now (words_are.entry_place F.layout frames frame first) count }
+{
+    let place = entry_place::<F>(frames, frame, first);
+    let mut all = 0;
+    for looked in 0..count {
+        all |= words[place + looked as usize];
+    }
+    all == 0
+}
+
 /// Sets `count` entries of a frame from number `first` on to zero. Answers how many weren't.
 pub(crate) fn zero_run<F: Format>(
     words: &mut [u64],
@@ -152,15 +175,21 @@ pub(crate) fn zero_run<F: Format>(
     ensures number { result ≡ owner.nonzero_in words.old (words_are.entry_place F.layout frames frame first) count }
 {
     let place = entry_place::<F>(frames, frame, first);
-    let mut cleared = 0;
+    let mut empty: u64 = 0;
     for done in 0..count {
         let at = place + done as usize;
-        if words[at] != 0 {
-            cleared += 1;
-        }
+        empty += u64::from(words[at] == 0);
         words[at] = 0;
     }
-    cleared
+    count - empty as u32
+}
+
+/// The number below which no frame is free, where it was so below `number`, and this frame is found not free or taken.
+pub(crate) fn taken_upto(number: u32, frame: u32) -> u32
+    requires { frame < 2 ^ 31 }
+    ensures { result ≡ owner.taken_upto number frame }
+{
+    if frame == number { frame + 1 } else { number }
 }
 
 /// The tag of a frame that is placed as the table at a position.

@@ -1,5 +1,5 @@
 -- The law of calls, kind by kind.
-use Rattle.std.proofs.Common.{◌≡◌, ◌≢◌, ℕ, ◌≤◌, [], ◌∷◌, ◌++◌, refl, ap, sym, ◌∙◌, subst, arith}
+use Rattle.std.proofs.Common.{◌≡◌, ◌≢◌, ℕ, ◌≤◌, List, [], ◌∷◌, ◌++◌, length, length-append, refl, ap, sym, ◌∙◌, subst, arith}
 use Rattle.std.specs.Prelude.{Option}
 use Rattle.pt_model.specs.declared.position.Position.{Position}
 use Rattle.pt_model.specs.Layout.{Layout}
@@ -12,15 +12,18 @@ use Rattle.pt_view.specs.declared.view.View.{View}
 use Rattle.pt_view.specs.declared.view.Prepared.{Prepared}
 use Rattle.pt_view.specs.declared.holder.Won.TheVariants.{Yes, Met}
 use Rattle.pt_view.specs.Pieces.{level_of}
-use Rattle.pt_view.specs.Calls.{InstallFinds, IsEntryAt, IsGrown, IsUnlinked, MayInstall, MeetsEntry}
-use Rattle.pt_rule.specs.Kinds.{EntryTells, InstallTells, May, zero as tells_zero, own, pointer, after, frame_of, installed, met, take, place, unplace, free, mark, look_tag, load_root, look, install, write, clear, unlink, bridge, unbridge, raise}
+use Rattle.pt_view.specs.Calls.{InstallFinds, IsEntryAt, IsFreed, IsGrown, IsUnlinked, MayInstall, MeetsEntry}
+use Rattle.pt_rule.specs.Kinds.{EntryTells, InstallTells, May, rest_of, zero as tells_zero, own, pointer, after, frame_of, installed, met, take, place, unplace, free, mark, look_tag, load_root, look, install, write, clear, unlink, bridge, unbridge, raise}
 use Rattle.pt_rule.specs.Kinds.{MayCut}
-use Rattle.pt_rule.specs.Meets.{Enters, GoesInto, GrowMeets, Installs, StepsMeet, Always, IsWhole, UnlinkMeets, in_child, out_of_child}
+use Rattle.pt_rule.specs.Meets.{Enters, GoesInto, GrowMeets, Installs, ReleaseMeets, Releases, StepsMeet, Always, IsWhole, UnlinkMeets, in_child, out_of_child}
+use Rattle.pt_view.proofs.Freed.{freed_none, freed_on, released}
+use Rattle.pt_view.proofs.Members.{in_here}
+use Rattle.pt_view.specs.Lists.{IsIn}
 use Rattle.pt_rule.proofs.PieceFacts.{may_be_leaf}
 use Rattle.pt_rule.proofs.TreeFacts.{frame_back, is_address, level_of_piece}
 use Rattle.pt_rule.proofs.LookKept.{entry_position}
 use Rattle.pt_rule.proofs.CallsRooted.{rooted}
-use Rattle.pt_rule.proofs.CallsTags.{placed_is, taken_is, unplaced_is}
+use Rattle.pt_rule.proofs.CallsTags.{freed_is, placed_is, taken_is, unplaced_is}
 use Rattle.pt_rule.proofs.CallsWent.{went_empty, went_entered, went_leaf}
 use Rattle.pt_rule.proofs.CallsInstalled.{installed_no, installed_yes, won_view}
 use Rattle.pt_rule.proofs.CallsWritten.{written_is}
@@ -131,7 +134,7 @@ pub steps_meet : StepsMeet
 steps_meet f good d a n few v (take frame) found may told = taken_is Always v f frame found
 steps_meet f good d a n few v (place frame p) found may told = placed_is Always v f frame found p may.0.0 may.0.1
 steps_meet f good d a n few v (unplace frame) found may told = unplaced_is Always v f frame found may.0 may.1
-steps_meet f good d a n few v (free frame) found may told = tt
+steps_meet f good d a n few v (free frame) found may told = freed_is Always v f frame found may.0 may.1
 steps_meet f good d a n few v (mark frame end) found may told = tt
 steps_meet f good d a n few v (look_tag frame) found may told = tt
 steps_meet f good d a n few v load_root found may told = rooted f n Always (IsWhole f v) v found (λ e. e) told
@@ -174,3 +177,15 @@ grow_meets f n v may = (
     lost = λ found last told ne. subst (IsGrown f Always (IsWhole f v) v Met) (sym (growth.outgrown_is f n v may found last ne)) (growth.not_grown f n v may Always (IsWhole f v) (λ e. e) found told ne);
   },
 )
+
+-- some frames of the purse are freed, and these are next
+freed_rest : (f : Layout) (n : ℕ) (old : View) (gone frames : List ℕ) (v : View) → IsFreed Always gone old v → v.purse ≡ frames → Releases f n old frames v
+freed_rest f n old gone [] v freed is = released freed (let e = ap length freed.purse in let none = ap length is in let l = length-append gone v.purse in omega arith)
+freed_rest f n old gone (frame ∷ frames) v freed is = (
+  subst (λ (xs : List ℕ). IsIn xs frame) (sym is) (in_here frame frames),
+  (frames, is),
+  λ found. freed_rest f n old (gone ++ frame ∷ []) frames (after f (free frame) found v) (freed_on freed (freed_is Always v f frame found frames is)) (ap rest_of is),
+)
+
+pub release_meets : ReleaseMeets
+release_meets f n v = freed_rest f n v [] v.purse v (freed_none v) refl

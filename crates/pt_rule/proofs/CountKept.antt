@@ -3,7 +3,7 @@
 use Rattle.std.proofs.Common.{◌≡◌, ◌≢◌, ◌⊎◌, inl, inr, ℕ, zero, suc, true, false, ◌+◌, ◌-◌, ◌*◌, ◌%◌, ◌<◌, ◌≤◌, List, [], ◌∷◌, ◌++◌, length, refl, ap, sym, ◌∙◌, subst, ⊎_elim, arith}
 use Rattle.std.specs.Prelude.{IsTrue, ◌==◌, nat_le, map, Option, None, Some}
 use Rattle.std.specs.List.{AllByRecursion, range_with_len}
-use Rattle.std.proofs.lemmas.Bool.{and_parts, eq-eqb, ne_eqb, eqb-true, cases_Bool, false≢true, leb-true}
+use Rattle.std.proofs.lemmas.Bool.{and_parts, eq-eqb, ne_eqb, eqb-true, cases_Bool, false_from_ne_true, false≢true, leb-true}
 use Rattle.std.proofs.lemmas.Nat.{pow_pos}
 use Rattle.std.proofs.lemmas.List.{length-append, length-map}
 use mathlib.Core.Option.{some}
@@ -31,7 +31,10 @@ use Rattle.pt_model.proofs.Positions.{bit_le, bit_true, bit_false, is_same_self,
 use Rattle.pt_rule.proofs.PathTables.{all_levels}
 use Rattle.pt_rule.proofs.TreeFacts.{level_low, one_frame, spine_there, table_there, whole_alone, whole_tree}
 use Rattle.pt_rule.proofs.RootKept.{spine_is}
+use Rattle.pt_rule.specs.WholeView.{is_linked_in, prepared_frame}
+use Rattle.pt_rule.specs.WholeCounts.{TagsAreCounted, linked_frames_in}
 use Rattle.pt_rule.proofs.AloneKept.{alone}
+use Rattle.pt_rule.proofs.ReadTables.{is_linked, reads_linked}
 
 -- Lists of positions.
 
@@ -257,3 +260,39 @@ pub counted : (f : Layout) → IsLayout f → (n l : ℕ) (words : List ℕ) (vi
 counted f good n l words views id v r at whole =
     let one : Lawful f n l words (v ∷ []) = alone f n l words views id v r at whole in
     (few f n l good words v one whole, every f n l good words v one whole)
+
+-- The linked frames are as many as the linked positions.
+module _ (f : Layout) (n l : ℕ) (good : IsLayout f) (words : List ℕ) (v : View) (r : Lawful f n l words (v ∷ [])) (whole : v.count ≡ input_pages f) where
+  abbrev prepared : Option ℕ
+  prepared = prepared_frame v.prepared
+
+  abbrev linked : List ℕ
+  linked = linked_frames f n l good words v r whole
+
+  one_each : (g : ℕ) → g < n → times g linked ≡ one_if (is_linked_in prepared words g)
+  one_each g lt = ⊎_elim
+      (λ (a : IsLinked n words (v ∷ []) g).
+      let q : Position = placed_at (tag words g) in
+      let k = linked_times f n l good words v r whole g a (positions f n l good words v r whole) (all_there f n l good words v r whole) in
+      let some_one : 0 < places q (positions f n l good words v r whole) = stands f n l good words v r whole q (r.positions.in_tree g a) in
+      let most = once f n l good words v r whole q in
+      let yes = bit_true (is_linked_in prepared words g) (reads_linked f n l words v good r (live f n l good words v r whole) g a) in omega arith)
+      (λ (no : ¬ IsLinked n words (v ∷ []) g).
+      let k = unlinked_times f n l good words v r whole g no (positions f n l good words v r whole) (all_there f n l good words v r whole) in
+      let none = bit_false (is_linked_in prepared words g) (false_from_ne_true (is_linked_in prepared words g) (λ yes. no (is_linked f n l words v good r (live f n l good words v r whole) g lt yes))) in omega arith)
+      (linked_or_not f n l good words v r whole g lt)
+
+  all_below : (m : ℕ) → m ≤ n → linked_frames_in prepared words m ≡ sum_below (λ g. times g linked) m
+  all_below zero le = refl
+  all_below (suc g) le = let rest = all_below g (omega arith) in let one = one_each g (omega arith) in omega arith
+
+  tags_counted : linked_of v ≡ linked_frames_in prepared words n
+  tags_counted =
+      let a = length_sum n linked (λ g le. unlinked_times f n l good words v r whole g (λ a. let lt = a.within in omega arith) (positions f n l good words v r whole) (all_there f n l good words v r whole)) in
+      let b = all_below n (omega arith) in
+      let c = frames_length f n l good words v r whole (positions f n l good words v r whole) (all_there f n l good words v r whole) in
+      let d = length-append v.tables (spine f n l good words v r whole) in
+      let e = length-map (levels_between (starting_top v.levels) v.top) spine_position in omega arith
+
+pub tags_are_counted : TagsAreCounted
+tags_are_counted f good n l words views id v r at whole = tags_counted f n l good words v (alone f n l words views id v r at whole) whole

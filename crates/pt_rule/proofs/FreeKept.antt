@@ -28,6 +28,15 @@ left_cases g h (x ∷ xs) a =
     (λ (more : IsIn (without g xs) h). let rest : (h ≢ g) × IsIn xs h = left_cases g h xs more in (rest.0, in_more h x xs rest.1))
     (in_cases h x (without g xs) (subst F e.0 a))) (eqb_tells x g)
 
+pub stays_left : (g h : ℕ) (xs : List ℕ) → h ≢ g → IsIn xs h → IsIn (without g xs) h
+stays_left g h [] ne a = absurd (omega arith)
+stays_left g h (x ∷ xs) ne a =
+    let F : Bool → Type 0 = λ b. IsIn (if not b then x ∷ without g xs else without g xs) h in
+    ⊎_elim (λ (e : ((x == g) ≡ true) × (x ≡ g)). subst F (sym e.0) (⊎_elim (λ (same : h ≡ x). absurd (ne (same ∙ e.1))) (λ (more : IsIn xs h). stays_left g h xs ne more) (in_cases h x xs a)))
+    (λ (e : ((x == g) ≡ false) × (x ≢ g)). subst F (sym e.0) (⊎_elim (λ (same : h ≡ x). subst (IsIn (x ∷ without g xs)) (sym same) (in_here x (without g xs)))
+    (λ (more : IsIn xs h). in_more h x (without g xs) (stays_left g h xs ne more)) (in_cases h x xs a)))
+    (eqb_tells x g)
+
 module _ (f : Layout) (n l : ℕ) where
   pub free_kept : (g : ℕ) → Keeps f n l (free g)
   free_kept g words views id v r at live may =

@@ -4,9 +4,10 @@ use Rattle.atomic_table.proofs.Lists.{set_else}
 use Rattle.pt_rule.specs.Cuts.{joined}
 use Rattle.pt_rule.specs.Kinds.{retrace}
 use Rattle.pt_rule.specs.Laws.{BooksAreLawful, FrontsKeep, JoinsKeep, NewIsLawful, SplitsKeep, StepsKeep, ViewsNote, ViewsHold, WholeIsAlone, WholeIsCounted}
-use Rattle.pt_rule.specs.Meets.{GrowMeets, StepsMeet, UnlinkMeets}
+use Rattle.pt_rule.specs.Meets.{GrowMeets, ReleaseMeets, StepsMeet, UnlinkMeets}
 use Rattle.pt_rule.specs.Union.{WalkIsUnion}
 use Rattle.pt_rule.specs.WholeView.{WholeIsRead}
+use Rattle.pt_rule.specs.WholeCounts.{CensusIsRead, EntriesAreRead, PiecesAreAdded, ReadingsTell, TagsAreCounted}
 use Rattle.pt_rule.proofs.AloneKept as whole
 use Rattle.pt_rule.proofs.CallsMeet as calls
 use Rattle.pt_rule.proofs.CountKept as frames
@@ -17,6 +18,8 @@ use Rattle.pt_rule.proofs.JoinKept as parts
 use Rattle.pt_rule.proofs.StepsKept as steps
 use Rattle.pt_rule.proofs.OpeningKept as opening
 use Rattle.pt_rule.proofs.ReadWhole as read
+use Rattle.pt_rule.proofs.ReadEntries as entries
+use Rattle.pt_rule.proofs.CensusRead as census
 use Rattle.pt_rule.proofs.RestingBook as books
 use Rattle.pt_rule.proofs.SplitKept as halves
 use Rattle.pt_rule.proofs.WalkUnion as walk
@@ -39,6 +42,9 @@ unlink_meets = calls.unlink_meets
 pub grow_meets : GrowMeets
 grow_meets = calls.grow_meets
 
+pub release_meets : ReleaseMeets
+release_meets = calls.release_meets
+
 pub views_note : ViewsNote
 views_note = noted.views_note
 
@@ -60,6 +66,21 @@ whole_is_counted = frames.counted
 
 pub whole_is_read : WholeIsRead
 whole_is_read = read.whole_read
+
+pub entries_are_read : EntriesAreRead
+entries_are_read = entries.entries_are_read
+
+pub pieces_are_added : PiecesAreAdded
+pieces_are_added = entries.pieces_are_added
+
+pub readings_tell : ReadingsTell
+readings_tell = census.readings_tell
+
+pub census_is_read : CensusIsRead
+census_is_read = census.census_is_read
+
+pub tags_are_counted : TagsAreCounted
+tags_are_counted = frames.tags_are_counted
 
 pub books_are_lawful : BooksAreLawful
 books_are_lawful = books.resting

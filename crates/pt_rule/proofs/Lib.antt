@@ -55,6 +55,8 @@ mod ReadTables
 mod ReadPiece
 mod ReadPieces
 mod ReadWhole
+mod ReadEntries
+mod CensusRead
 mod WalkUnion
 mod LiveViews
 -- Cuts: a path that is cut, a view cut in two, and two views as one.

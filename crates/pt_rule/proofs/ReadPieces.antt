@@ -112,6 +112,11 @@ module _ (f : Layout) (pieces : List Piece) where
     all = λ x m s. ⊎_elim (λ (a : A x). piece_kept f ys y x (h.all x m a)) (λ (e : x ≡ y). subst (IsOneOf (add_piece f ys y)) (sym e) (piece_added f ys y)) s;
   }
 
+-- the one view of a list
+pub only_view : (v : View) (j : ℕ) (u : View) → get_elem? (v ∷ []) j ≡ some u → u ≡ v
+only_view v zero u e = sym (some-injective v u e)
+only_view v (suc j) u e = absurd (some-ne-none u (sym e))
+
 module _ (f : Layout) (n l : ℕ) (words : List ℕ) (v : View) (good : IsLayout f) (d : WordsDiffer f) (a : StepsAgree f) (r : Lawful f n l words (v ∷ [])) (live : 0 < v.count) where
   -- a piece stands at an entry before entry i of frame g
   record IsSeen (g i : ℕ) (x : Piece) : Type 0 where
@@ -174,10 +179,6 @@ module _ (f : Layout) (n l : ℕ) (words : List ℕ) (v : View) (good : IsLayout
             let theirs : IsOwnPiece f v x = one_has (IsOwnPiece f v) v.pieces x (r.books 0 v refl live).pieces m in
             one_first f v.pieces x y rising m member (sym (entry_of_piece f good v x theirs p i one) ∙ entry_of_piece f good v y own p i stands_here)
 
-    only_view : (j : ℕ) (u : View) → get_elem? (v ∷ []) j ≡ some u → u ≡ v
-    only_view zero u e = sym (some-injective v u e)
-    only_view (suc j) u e = absurd (some-ne-none u (sym e))
-
     entry_read : (ys : List Piece) → i < 2 ^ f.index → Gathers f v.pieces (IsSeen g i) ys →
         Gathers f v.pieces (IsSeen g (suc i)) (with_piece f ys (piece_in f p i (entry_of f n words g i)))
     entry_read ys small h =
@@ -186,7 +187,7 @@ module _ (f : Layout) (n l : ℕ) (words : List ℕ) (v : View) (good : IsLayout
           | an_empty z none childless ↦
               subst (λ (o : Option Piece). Gathers f v.pieces (IsSeen g (suc i)) (with_piece f ys o)) (sym (zero_read f a p i (entry_of f n words g i) pos.a_level z)) (entry_none ys none h)
           | a_piece one word ↦
-              let mine : one.view ≡ v = only_view one.index one.view one.at in
+              let mine : one.view ≡ v = only_view v one.index one.view one.at in
               let own : IsOwnPiece f v one.piece = subst (λ (u : View). IsOwnPiece f u one.piece) mine one.own in
               subst (λ (o : Option Piece). Gathers f v.pieces (IsSeen g (suc i)) (with_piece f ys o))
               (sym (piece_read f good d a v one.piece own p i (entry_of f n words g i) one.here word))

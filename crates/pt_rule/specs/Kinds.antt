@@ -31,7 +31,7 @@ pub data Kind : Type 0 where
   place : (frame : ℕ) → Position → Kind
   -- `unplace`, and the end of `unlink`: a store by which the prepared frame is the purse's first again
   unplace : (frame : ℕ) → Kind
-  -- a release: a store by which the purse's first frame is free
+  -- `release`: after a load of its tag, a store by which the purse's first frame is free
   free : (frame : ℕ) → Kind
   -- a cut of a purse in two, or two put together: a store by which its last frame has a new end mark
   mark : (frame : ℕ) → Option ℕ → Kind

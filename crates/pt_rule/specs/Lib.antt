@@ -9,4 +9,5 @@ pub mod Holds
 pub mod Meets
 pub mod Laws
 pub mod WholeView
+pub mod WholeCounts
 pub mod Union

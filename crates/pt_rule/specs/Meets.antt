@@ -1,7 +1,7 @@
 -- The law of calls: a step of each kind, where the number that it finds tells what its kind says, is what a holder's
 -- call says of the view before and after it. It says it in full: of a holder that tells its histories, and is alone
 -- where its span is the whole space. A holder that tells less has it all the more.
-use Rattle.std.specs.Prelude.{◌≡◌, ◌≢◌, ℕ, ◌%◌, ◌≤◌, ◌==◌, [], ◌∷◌, ◌++◌}
+use Rattle.std.specs.Prelude.{◌≡◌, ◌≢◌, ℕ, ◌%◌, ◌≤◌, ◌==◌, List, [], ◌∷◌, ◌++◌}
 use Rattle.pt_model.specs.declared.block.Prot.{Prot}
 use Rattle.pt_model.specs.declared.position.Position.{Position}
 use Rattle.pt_model.specs.Layout.{Layout, input_pages}
@@ -14,8 +14,8 @@ use Rattle.pt_view.specs.declared.view.View.{View}
 use Rattle.pt_view.specs.declared.holder.Seen.TheVariants.{Empty, Leaf, Entered}
 use Rattle.pt_view.specs.declared.holder.Won.TheVariants.{Yes, Met}
 use Rattle.pt_view.specs.Pieces.{word_of}
-use Rattle.pt_view.specs.Calls.{InstallFinds, IsCleared, IsEntryAt, IsGrown, IsInstalled, IsPlaced, IsTaken, IsUnlinked, IsUnplaced, IsWritten, MayGrow, MayUnlink, Rooted, Went}
-use Rattle.pt_rule.specs.Kinds.{IsLowestIn, Kind, May, Tells, after, frame_of, bridge, clear, install, load_root, look, place, raise, take, unbridge, unlink, unplace, write}
+use Rattle.pt_view.specs.Calls.{InstallFinds, IsCleared, IsEntryAt, IsFreed, IsGrown, IsInstalled, IsPlaced, IsReleased, IsTaken, IsUnlinked, IsUnplaced, IsWritten, MayGrow, MayUnlink, Rooted, Went}
+use Rattle.pt_rule.specs.Kinds.{IsLowestIn, Kind, May, Tells, after, frame_of, bridge, clear, free, install, load_root, look, look_tag, place, raise, take, unbridge, unlink, unplace, write}
 
 abbrev pub Always : Type 0
 Always = Unit {0}
@@ -55,6 +55,7 @@ Says f (install frame number) v found w = (p : Position) → IsEntryAt f v p num
 Says f (write frame number x) v found w = IsWritten f Always number (word_of f x) v w
 Says f (clear frame number x) v found w = IsCleared f Always number v w
 Says f (take frame) v found w = IsTaken Always frame v (found == 0) w
+Says f (free frame) v found w = IsFreed Always (frame ∷ []) v w
 Says f _ v found w = Unit {0}
 
 abbrev pub StepsMeet : Type 0
@@ -105,3 +106,12 @@ abbrev pub GrowMeets : Type 0
 GrowMeets =
     (f : Layout) (n : ℕ) (v : View) (may : MayGrow v) →
     May f n (bridge may.frame may.root may.level) v × ((old : ℕ) → Grows f n v may old)
+
+-- `release` is, for each frame of the purse, a load of its tag and a store that frees it.
+abbrev pub Releases : Layout → (n : ℕ) → (old : View) → (frames : List ℕ) → (v : View) → Type 0
+Releases f n old [] v = IsReleased Always old v
+Releases f n old (frame ∷ frames) v =
+    May f n (look_tag frame) v × May f n (free frame) v × ((found : ℕ) → Releases f n old frames (after f (free frame) found v))
+
+abbrev pub ReleaseMeets : Type 0
+ReleaseMeets = (f : Layout) (n : ℕ) (v : View) → Releases f n v v.purse v

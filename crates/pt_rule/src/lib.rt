@@ -5,14 +5,15 @@
 //! Promised: a new space is lawful; each step keeps the rule, whatever the words and the other views are, and
 //! the number that it finds tells what its kind says, which is what the holder's call says of its view; a view is cut
 //! in two and two are put together; a holder of the whole space is the only one; the book of a holder at rest is
-//! lawful; the pieces and the tables of a holder of the whole space are read from the words; the manual's walk of the
-//! words is the union of what the views map.
+//! lawful; the pieces and the tables of a holder of the whole space are read from the words, entry by entry, and its census
+//! is counted over them; the manual's walk of the words is the union of what the views map.
 #![tactic(auto)]
 
 ghost use Rattle.pt_rule.specs.Laws.{NewIsLawful, StepsKeep, FrontsKeep, ViewsNote, SplitsKeep, JoinsKeep, ViewsHold, WholeIsAlone, WholeIsCounted, BooksAreLawful};
 ghost use Rattle.pt_rule.specs.WholeView.{WholeIsRead};
+ghost use Rattle.pt_rule.specs.WholeCounts.{CensusIsRead, EntriesAreRead, PiecesAreAdded, ReadingsTell, TagsAreCounted};
 ghost use Rattle.pt_rule.specs.Union.{WalkIsUnion};
-ghost use Rattle.pt_rule.specs.Meets.{StepsMeet, UnlinkMeets, GrowMeets};
+ghost use Rattle.pt_rule.specs.Meets.{StepsMeet, UnlinkMeets, GrowMeets, ReleaseMeets};
 
 /// A new space is lawful, with the one view of the whole space.
 pub fn new_is_lawful()
@@ -28,12 +29,13 @@ pub fn steps_keep()
 {}
 
 /// What a holder's calls are: a step of each kind, where the number found tells what its kind says, does to the view
-/// what the trait's call that makes it says. `unlink` and `grow` are several steps in a row, each of which may be made
-/// after those before it.
+/// what the trait's call that makes it says. `unlink`, `grow` and `release` are several steps in a row, each of which may
+/// be made after those before it.
 pub fn calls_meet()
     ensures steps { StepsMeet }
     ensures unlink { UnlinkMeets }
     ensures grow { GrowMeets }
+    ensures release { ReleaseMeets }
 {}
 
 /// What is said of a seat's step holds too of a step of a holder that has only the front of its seat's path.
@@ -83,6 +85,21 @@ pub fn books_are_lawful()
 /// root's level, and its span begins at page 0.
 pub fn whole_is_read()
     ensures { WholeIsRead }
+{}
+
+/// Each entry of a linked frame of a view of the whole space is zero, where nothing stands there, or the word of the one
+/// piece that does, or the pointer to the table that is linked there. What it reads as tells of the piece.
+pub fn entries_are_read()
+    ensures entries { EntriesAreRead }
+    ensures readings { ReadingsTell }
+{}
+
+/// The census of a view of the whole space is a function of the words: the linked frames are as many as its linked
+/// positions, and what a number of each piece adds up to is what it adds up to over the entries.
+pub fn whole_adds_up()
+    ensures tags { TagsAreCounted }
+    ensures pieces { PiecesAreAdded }
+    ensures census { CensusIsRead }
 {}
 
 /// The manual's walk of the words gives at each address the byte and the permission of the one piece of a view that

@@ -10,11 +10,11 @@ ghost use Rattle.pt_sweep.specs.Draws.{FindsAll, Gains, GainsInOrder, OnlyTakes}
 use pt_format::Format;
 use pt_view::Holder;
 
-/// Tries to take frames, each once, from frame 0 upward, until `count` were taken. Answers how many
-/// were: they are in front of the purse, which loses none.
+/// Tries to take frames, each once, from the first one upward that the holder doesn't know to be taken, until `count`
+/// were taken. Answers how many were: they are in front of the purse, which loses none.
 ///
-/// It answers less than `count` only where it tried every frame: each was then taken by this call, or
-/// found not free at a step of it.
+/// It answers less than `count` only where it tried every such frame: each was then taken by this call, or
+/// found not free at a step of it. A holder whose takes are told knows of none, so that each frame is tried.
 pub fn draw<F: Format, H: Holder<F>>(holder: &mut H, count: u32) -> u32
     ensures stays { Stays H.space H.aside H.alone holder.old holder.new }
     ensures only { OnlyTakes H.tells (H.view holder.old) (H.view holder.new) }
@@ -28,7 +28,7 @@ pub fn draw<F: Format, H: Holder<F>>(holder: &mut H, count: u32) -> u32
     ensures all { H.alone holder.old → result < count → FillsSpace (H.view holder.new) (H.aside holder.new) }
 {
     let mut taken = 0;
-    for frame in 0..holder.frames() {
+    for frame in holder.known_taken()..holder.frames() {
         if taken == count {
             break;
         }

@@ -15,7 +15,7 @@ use Rattle.pt_view.specs.declared.holder.Seen.TheVariants.{Empty, Leaf, Entered}
 use Rattle.pt_view.specs.declared.holder.Won.{Won}
 use Rattle.pt_view.specs.declared.holder.Won.TheVariants.{Yes, Met}
 use Rattle.pt_model.specs.Sets.{one_if, IsAmong, SamePositions, AddsPositions, RemovesPosition, without_position}
-use Rattle.pt_view.specs.Lists.{IsIn, SameFrames, AddsFrame}
+use Rattle.pt_view.specs.Lists.{IsIn, SameFrames, AddsFrame, DropsFrames}
 use Rattle.pt_view.specs.Pieces.{IsOneOf, add_piece, add_pieces, pieces_by, first_of, table_of, number_of, word_of, words_of}
 use Rattle.pt_view.specs.Views.{Aside, SameRange, SameBook, SamePurse, SameHistory, linked_count}
 
@@ -384,6 +384,23 @@ pub record IsTaken (tells : Type 0) (frame : ℕ) (v : View) (won : Bool) (w : V
   pub known : SamePositions v.known w.known
   pub told : tells → (w.absent ≡ v.absent) × (w.stores ≡ v.stores)
 
+-- these frames, the first ones of the purse, are freed: they aren't held, nor busy
+pub record IsFreed (tells : Type 0) (frames : List ℕ) (v w : View) : Type 0 where
+  pub range : SameRange v w
+  pub book : SameBook v w
+  pub path : w.path ≡ v.path
+  pub prepared : w.prepared ≡ v.prepared
+  pub purse : v.purse ≡ frames ++ w.purse
+  pub end : w.end ≡ v.end
+  pub busy : DropsFrames v.busy w.busy frames
+  pub known : SamePositions v.known w.known
+  pub told : tells → SameHistory v w
+
+-- every frame of the purse is freed
+pub record IsReleased (tells : Type 0) (v w : View) : Type 0 where
+  pub freed : IsFreed tells v.purse v w
+  pub none : w.purse ≡ []
+
 -- Counts of frames.
 
 -- a frame is prepared, and it has no bridge
@@ -397,6 +414,10 @@ prepared_count (Some x) = 1
 
 abbrev pub held_count : View → ℕ
 held_count v = length v.purse + prepared_count v.prepared
+
+-- the frames below a number were found not free
+abbrev pub HasFramesBelow : View → (number : ℕ) → Type 0
+HasFramesBelow v number = (frame : ℕ) → frame < number → IsIn v.busy frame
 
 abbrev pub HasEveryFrame : View → Type 0
 HasEveryFrame v = (frame : ℕ) → frame < v.frames → IsIn v.busy frame

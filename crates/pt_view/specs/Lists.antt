@@ -16,3 +16,7 @@ SameFrames old new = (x : ℕ) → IsIn new x ↔ IsIn old x
 
 abbrev pub AddsFrame : (old new : List ℕ) → ℕ → Type 0
 AddsFrame old new frame = (x : ℕ) → IsIn new x ↔ ((x ≡ frame) ⊎ IsIn old x)
+
+-- the same frames, but for those that are gone
+abbrev pub DropsFrames : (old new gone : List ℕ) → Type 0
+DropsFrames old new gone = (x : ℕ) → IsIn new x ↔ ((¬ IsIn gone x) × IsIn old x)

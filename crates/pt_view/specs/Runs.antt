@@ -1,4 +1,4 @@
--- Runs of entries that are cleared.
+-- Runs of entries: those that are looked at, and those that are cleared.
 use Rattle.std.specs.Prelude.{◌≡◌, ℕ, zero, suc, ◌+◌, ◌<◌, ◌==◌, ◌&&◌, Bool, true, length, filter, map, List, [], ◌∷◌, ◌++◌, IsTrue}
 use Rattle.pt_model.specs.Layout.{Layout}
 use Rattle.pt_model.specs.declared.position.Position.{Position}
@@ -8,7 +8,21 @@ use Rattle.pt_view.specs.declared.view.Piece.{Piece}
 use Rattle.pt_view.specs.declared.view.Change.TheVariants.{Cleared}
 use Rattle.pt_view.specs.Lists.{SameFrames}
 use Rattle.pt_view.specs.Views.{SamePurse, SameRange}
-use Rattle.pt_view.specs.Calls.{IsEntryAt, entry_end, entry_first, is_in_span, pieces_at}
+use Rattle.pt_view.specs.Calls.{IsEntryAt, IsVacant, entry_end, entry_first, is_in_span, meets_span, pieces_at}
+use Rattle.pt_view.specs.Loads.{ByLoads}
+
+-- entries that may be looked at in a row: of the path's last table, from a number on; the pages under each meet the span
+pub record MeetsRun (f : Layout) (v : View) (first count : ℕ) : Type 0 where
+  pub some : 0 < count
+  pub position : Position
+  pub entry : (i : ℕ) → i < count → IsEntryAt f v position (first + i)
+  pub meets : (i : ℕ) → i < count → IsTrue (meets_span v (entry_first f position (first + i)) (entry_end f position (first + i)))
+
+-- so many entries are looked at: where all are found empty, nothing stands under them
+pub record LooksAtRun (f : Layout) (tells : Type 0) (first count : ℕ) (v : View) (empty : Bool) (w : View) : Type 0 where
+  pub loads : ByLoads tells v w
+  pub path : w.path ≡ v.path
+  pub vacant : IsTrue empty → (p : Position) → IsEntryAt f v p first → (i : ℕ) → i < count → IsVacant f v p (first + i)
 
 -- entries that may be cleared in a row: of the path's last table, which is of level 0, from a number on; each is in the span
 pub record MayClearRun (f : Layout) (v : View) (first count : ℕ) : Type 0 where

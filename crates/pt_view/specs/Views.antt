@@ -58,6 +58,10 @@ pub record IsAtRest (f : Layout) (v : View) (blocks : List Block) : Type 0 where
   pub end : v.end ≡ None
   pub pieces : v.pieces ≡ all_pieces f blocks
 
+-- some blocks are those of a view at rest
+abbrev pub Rests : Layout → View → Type 0
+Rests f v = (blocks : List Block) × IsAtRest f v blocks
+
 -- the book of a view at rest
 abbrev pub book_of : View → List Block → Book
 book_of v blocks = record { first = v.first; count = v.count; blocks = blocks; tables = v.tables; top = v.top }

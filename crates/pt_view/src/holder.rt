@@ -5,13 +5,13 @@ ghost use Rattle.pt_model.specs.declared.position.Position.{Position};
 ghost use Rattle.pt_model.specs.Tables.{IsPosition};
 ghost use Rattle.pt_view.specs.declared.view.View.{View};
 ghost use Rattle.pt_model.specs.Layout.{input_pages};
-ghost use Rattle.pt_view.specs.Views.{Aside, Stays, IsLawfulAtRest};
+ghost use Rattle.pt_view.specs.Views.{Aside, Stays, IsLawfulAtRest, Rests};
 ghost use Rattle.pt_view.specs.Calls.{MeetsEntry, Rooted, Went, left};
 ghost use Rattle.pt_view.specs.Calls.{IsPrepared, IsPlaced, IsUnplaced, MayInstall, IsInstalled, InstallFinds, MayGrow, IsGrown};
 ghost use Rattle.pt_view.specs.Calls.{MayWrite, IsWritten, MayWriteRun, IsWrittenRun};
 ghost use Rattle.pt_view.specs.Calls.{MayClear, IsCleared, MayUnlink, IsUnlinked, UnlinkFinds};
-ghost use Rattle.pt_view.specs.Runs.{MayClearRun, IsClearedRun};
-ghost use Rattle.pt_view.specs.Calls.{IsTaken, HasEveryFrame, FillsSpace, FitsSpace};
+ghost use Rattle.pt_view.specs.Runs.{MayClearRun, IsClearedRun, MeetsRun, LooksAtRun};
+ghost use Rattle.pt_view.specs.Calls.{IsTaken, IsReleased, HasEveryFrame, HasFramesBelow, FillsSpace, FitsSpace};
 
 use pt_format::Format;
 use pt_num::Span;
@@ -70,6 +70,13 @@ pub trait Holder<F: Format> {
         requires { MeetsEntry F.layout (view self.old) number }
         ensures stays { Stays space aside alone self.old self.new }
         ensures went { Went F.layout tells (alone self.old) number (view self.old) result (view self.new) };
+
+    /// Loads `count` entries of the path's last table, from number `first` on. True only where each was zero. Others
+    /// see the loads one by one.
+    fn empty_run(&mut self, first: u32, count: u32) -> bool
+        requires { MeetsRun F.layout (view self.old) first count }
+        ensures stays { Stays space aside alone self.old self.new }
+        ensures looks { LooksAtRun F.layout tells first count (view self.old) result (view self.new) };
 
     /// Leaves the path's last table. Makes no step.
     fn leave(&mut self)
@@ -144,6 +151,19 @@ pub trait Holder<F: Format> {
         ensures stays { Stays space aside alone self.old self.new }
         ensures taken { IsTaken tells frame (view self.old) result (view self.new) }
         ensures all { alone self.old → HasEveryFrame (view self.new) → FillsSpace (view self.new) (aside self.new) };
+
+    /// Frees every frame of the purse, first to last.
+    fn release(&mut self)
+        requires { Rests F.layout (view self.old) }
+        ensures stays { Stays space aside alone self.old self.new }
+        ensures released { IsReleased tells (view self.old) (view self.new) };
+
+    /// A number below which the holder knows that no frame is free: a take of one of them would fail. A holder whose
+    /// takes are told answers 0.
+    fn known_taken(&self) -> u32
+        ensures taken { HasFramesBelow (view self.now) result }
+        ensures told { tells → result ≡ 0 }
+        ensures all { alone self.now → HasEveryFrame (view self.now) → FillsSpace (view self.now) (aside self.now) };
 
     /// The number of frames in the purse.
     fn purse(&self) -> u32

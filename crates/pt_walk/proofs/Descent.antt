@@ -18,7 +18,7 @@ use Rattle.pt_view.specs.declared.holder.Seen.{Seen}
 use Rattle.pt_view.specs.declared.holder.Seen.TheVariants.{Empty, Leaf, Entered}
 use Rattle.pt_view.specs.Pieces.{IsLegalPiece, IsOneOf, IsUnderPiece, entry_number, level_of, table_of}
 use Rattle.pt_view.specs.Views.{SameBook, SameRange}
-use Rattle.pt_view.specs.Calls.{HasNoTableUnder, is_under, lowest, pieces_at}
+use Rattle.pt_view.specs.Calls.{HasNoTableUnder, IsVacant, is_under, lowest, pieces_at}
 use Rattle.pt_view.proofs.Pieces.{counted, has_page_here, page_in_block, stands_here, table_under, word_some}
 use Rattle.pt_view.proofs.Loads.{IsLoad, load_leaf, load_none, load_table, table_over}
 use Rattle.pt_walk.specs.Walks.{HasNone, HasNowhere, IsFound, IsAsked, IsGoing, IsStarting, IsOwn, OwnsAll, leaf_in}
@@ -68,8 +68,8 @@ leaf_is word P R some h = subst (λ (b : Bool). MatchOption (if b then None else
 pub own_piece : {f : Layout} {v : View} {x : Piece} → IsOwn f v x → IsLegalPiece f x
 own_piece o = record { a_part = o.a_part; legal = o.legal; stated = o.stated }
 
--- The load of the entry over a page.
-module _ {f : Layout} (good : IsLayout f) {tells alone : Type 0} {v : View} {page level : ℕ} {seen : Seen} {w : View} (owns : OwnsAll f v) (l : IsLoad f tells alone v page level seen w) where
+-- The entry over a page.
+module _ {f : Layout} (good : IsLayout f) {v : View} {page level : ℕ} (owns : OwnsAll f v) where
   -- a piece that has the page isn't in the table where none stands at the entry
   none_here : (x : Piece) → IsOneOf v.pieces x → IsUnderPiece f x page → pieces_at f (position_over f page level) (entry_number f level page) v.pieces ≡ 0 → level_of f x ≡ level → ⊥
   none_here x member has none same =
@@ -88,13 +88,19 @@ module _ {f : Layout} (good : IsLayout f) {tells alone : Type 0} {v : View} {pag
       ∙ ap (λ (q : Position). is_under f (position_over f page level) (entry_number f level page) q) (sym is) ∙ under))
       o.in_table
 
-  pub empty_none : seen ≡ Empty → HasNone f v page level
-  empty_none e = λ x member has low. let vacant = (load_none l e).vacant in
+  -- nothing stands there
+  pub vacant_none : IsVacant f v (position_over f page level) (entry_number f level page) → HasNone f v page level
+  vacant_none vacant = λ x member has low.
       dite (ℕ_discrete (level_of f x) level) (λ same. none_here x member has vacant.no_piece same) (λ ne. none_under x member has (record { no_table = vacant.no_table; none_known = vacant.none_known; no_spine = vacant.no_spine }) (omega arith))
+
+-- Its load.
+module _ {f : Layout} (good : IsLayout f) {tells alone : Type 0} {v : View} {page level : ℕ} {seen : Seen} {w : View} (owns : OwnsAll f v) (l : IsLoad f tells alone v page level seen w) where
+  pub empty_none : seen ≡ Empty → HasNone f v page level
+  empty_none e = vacant_none good owns (load_none l e).vacant
 
   -- no piece that has the page stands below a leaf
   pub leaf_none : {word : ℕ} → seen ≡ Leaf word → (x : Piece) → IsOneOf v.pieces x → IsUnderPiece f x page → level_of f x < level → ⊥
-  leaf_none e x member has low = none_under x member has (load_leaf l e).none_under low
+  leaf_none e x member has low = none_under good owns x member has (load_leaf l e).none_under low
 
   pub leaf_found : {word : ℕ} → seen ≡ Leaf word → IsFound f v page level word
   leaf_found e =
@@ -108,7 +114,7 @@ module _ {f : Layout} (good : IsLayout f) {tells alone : Type 0} {v : View} {pag
 
   -- no piece that has the page stands in the table itself
   pub entered_none : seen ≡ Entered → (x : Piece) → IsOneOf v.pieces x → IsUnderPiece f x page → level_of f x ≡ level → ⊥
-  entered_none e x member has same = none_here x member has (load_table l e).none same
+  entered_none e x member has same = none_here good owns x member has (load_table l e).none same
 
   pub none_below : seen ≡ Entered → HasNone f w page (level - 1) → HasNone f v page level
   none_below e h = λ x member has low.

@@ -176,6 +176,12 @@ under_nothing f v first end level (Mapped page) none other h = absurd (none page
 pub no_table_on : {v w : View} (first end level : ℕ) → SameBook v w → HasNoTable w first end level → HasNoTable v first end level
 no_table_on first end level b none = λ q m low from to. none q (subst (λ (ps : List Position). IsAmong ps q) (sym b.tables) m) low from to
 
+-- what was found is so for each view of that book
+pub finds_on : (f : Layout) {v w : View} (first end level : ℕ) (u : Under) → SameBook v w → FindsUnder f w first end level u → FindsUnder f v first end level u
+finds_on f first end level Nothing b h = (free_on f first end b h.0, no_table_on first end level b h.1)
+finds_on f first end level Tables b h = free_on f first end b h
+finds_on f first end level (Mapped page) b h = lowest_on b h
+
 pub no_table_more : (v : View) (first at to level : ℕ) → HasNoTable v first at level → HasNoTable v at to level → HasNoTable v first to level
 no_table_more v first at to level a b = λ q m low from to. elim (cases_lt q.base at) [ inl before ↦ a q m low from before | inr after ↦ b q m low after to ]
 

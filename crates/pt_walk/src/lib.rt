@@ -4,12 +4,13 @@
 //! holder: it answers by the book, whatever other holders do between its steps, and leaves the book and
 //! the purse as before. The holder may come to know of more linked positions. No call takes memory.
 //!
-//! A holder at rest is at rest again after `lookup`, `next_block` and `first_mapped`, and at the end of a
-//! walk over a range. `descend` and `climb` move along the tables over a range, and `first_below` and
+//! A holder at rest is at rest again after `lookup`, `cut_at`, `next_block` and `first_mapped`, and at the end of a
+//! walk over a range. `descend` and `climb` move along the tables over a range, and `look_below`, `first_below` and
 //! `first_at` look at it from the one where the holder stands, and come back to that.
 #![tactic(auto)]
 
 mod block;
+mod cut;
 mod numbers;
 mod path;
 mod range;
@@ -18,7 +19,8 @@ mod walker;
 mod way;
 
 pub use block::block_of;
+pub use cut::{CutRefused, cut_at, cut_page};
 pub use numbers::{entry_bits, entry_number, spine_end};
-pub use range::{Under, climb, descend, entry_end, first_at, first_below};
+pub use range::{Under, climb, descend, entry_end, first_at, first_below, look_below};
 pub use translate::{OutsideLease, lookup};
 pub use walker::{RangeWalk, first_mapped, next_block};

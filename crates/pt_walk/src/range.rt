@@ -3,7 +3,7 @@
 ghost use Rattle.pt_view.specs.Views.{Stays};
 ghost use Rattle.std.specs.Prelude.{◌≡◌, ◌+◌, ◌*◌, ◌/◌, ◌^◌, ◌≤◌, ◌<◌, ◌↔◌, IsTrue, min, length};
 ghost use Rattle.pt_model.specs.Layout.{input_pages, pages_of_entry};
-ghost use Rattle.pt_walk.specs.declared.range.Under.TheVariants.{Tables};
+ghost use Rattle.pt_walk.specs.declared.range.Under.TheVariants.{Nothing, Tables};
 ghost use Rattle.pt_walk.specs.Walks.{Climbs, FindsUnder, IsClear, IsOverRange, OwnsAll, OwnsOver, StaysClear, StopsAt, WentDown};
 ghost use Rattle.pt_view.specs.Loads.{ByLoads};
 
@@ -165,5 +165,42 @@ pub fn first_at<F: Format, H: Holder<F>>(holder: &mut H, level: u32, first: u64,
                 _ => Under::Tables,
             }
         }
+    }
+}
+
+/// Whether the entries over a range in the path's last table, of this level, are all empty.
+#[inline(always)]
+fn is_empty_over<F: Format, H: Holder<F>>(holder: &mut H, level: u32, first: u64, end: u64) -> bool
+    requires range { IsOverRange F.layout (H.view holder.old) first end level }
+    requires owns { OwnsAll F.layout (H.view holder.old) }
+    ensures stays { Stays H.space H.aside H.alone holder.old holder.new }
+    ensures walked { ByLoads H.tells (H.view holder.old) (H.view holder.new) }
+    ensures path { (H.view holder.new).path ≡ (H.view holder.old).path }
+    ensures nothing { IsTrue result → IsClear F.layout (H.view holder.old) first end level → FindsUnder F.layout (H.view holder.old) first end level Nothing }
+{
+    let number = entry_number::<F>(level, first);
+    let last = entry_number::<F>(level, end - 1);
+    holder.empty_run(number, last - number + 1)
+}
+
+/// The same as `first_below`, of a range over which most often nothing stands: its entries are looked at by one call first.
+#[inline(always)]
+pub fn look_below<F: Format, H: Holder<F>>(
+    holder: &mut H,
+    level: u32,
+    first: u64,
+    end: u64,
+) -> Under
+    requires range { IsOverRange F.layout (H.view holder.old) first end level }
+    requires owns { OwnsAll F.layout (H.view holder.old) }
+    ensures stays { Stays H.space H.aside H.alone holder.old holder.new }
+    ensures walked { ByLoads H.tells (H.view holder.old) (H.view holder.new) }
+    ensures path { (H.view holder.new).path ≡ (H.view holder.old).path }
+    ensures under { IsClear F.layout (H.view holder.old) first end level → FindsUnder F.layout (H.view holder.old) first end level result }
+{
+    if is_empty_over::<F, H>(holder, level, first, end) {
+        Under::Nothing
+    } else {
+        first_below::<F, H>(holder, level, first, end)
     }
 }

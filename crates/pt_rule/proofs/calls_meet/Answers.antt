@@ -1,4 +1,4 @@
-use Rattle.pt_rule.proofs.Laws.{grow_meets, steps_meet, unlink_meets}
+use Rattle.pt_rule.proofs.Laws.{grow_meets, release_meets, steps_meet, unlink_meets}
 use Rattle.pt_rule.proofs.calls_meet.Goals as goal
 
 pub returns-clause-steps : goal.returns-clause-steps
@@ -9,3 +9,6 @@ returns-clause-unlink c = unlink_meets
 
 pub returns-clause-grow : goal.returns-clause-grow
 returns-clause-grow c = grow_meets
+
+pub returns-clause-release : goal.returns-clause-release
+returns-clause-release c = release_meets

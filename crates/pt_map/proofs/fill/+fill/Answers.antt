@@ -158,3 +158,16 @@ pub fill_first-returns-else-log2-INDEX-clause-fills : goal.fill_first-returns-el
 fill_first-returns-else-log2-INDEX-clause-fills g t c =
     let low = low_by c.INDEX.result g.F.Format.layout.index c.args.level c.first_size-log2.result _ (c.INDEX.ensures ∙ sym g.met.F.Format.has_constants.index_is) c.first_size-log2.ensures c.if-log2-INDEX.false in
     fills_inner g.met.F.Format.lawful_layout c.requires low c.under_entry-inner.result c.under_entry-inner.ensures c.fill_entry.ensures.fills
+
+-- All of the extent lies under one entry.
+
+pub fill-fill_entry-requires : goal.fill-fill_entry-requires
+fill-fill_entry-requires g t c κs within =
+    let may = c.requires in
+    let entry = c.is_under_one.ensures c.if-is_under_one.true in
+    search (rules, may, entry)
+
+pub fill-from-rest-requires-clause-first : goal.fill-from-rest-requires-clause-first
+fill-from-rest-requires-clause-first g t c =
+    let may = c.loop-rest.invariant.filling.may c.loop-rest-test.true in
+    let low = first_from g.met.F.Format.lawful_layout may.stands.at.extent c.args.level c.fill_first-to.result c.fill_first-to.ensures.to in omega arith

@@ -182,3 +182,11 @@ survey-returns-clause-surveyed g t c =
         (λ none. only_none g.F.Format.layout (g.H.Holder.view c.args.holder.now) c.args.extent c.loop-rest.rest (λ more. omega arith) (i.only none)),
       );
     }
+
+-- The extent lies under one entry.
+
+pub survey-survey_under-requires : goal.survey-survey_under-requires
+survey-survey_under-requires g t c κs within =
+    let may = c.requires in
+    let entry = c.is_under_one.ensures c.if-is_under_one.true in
+    search (rules, may, entry)

@@ -1,4 +1,5 @@
 use Rattle.std.proofs.Common.{ℕ, ◌<◌, ◌≤◌}
+use Rattle.std.specs.Prelude.{min}
 use Rattle.pt_view.specs.declared.view.View.{View}
 use Rattle.pt_view.specs.Lists.{IsIn}
 use Rattle.pt_view.specs.Calls.{FillsSpace, HasEveryFrame}
@@ -18,9 +19,9 @@ invariant-loop-frame g l =
       rest : Rests g.F.Format.layout v → Rests g.F.Format.layout w;
       most : l.taken ≤ l.fn.count;
       purse : Gains v.purse w.purse l.taken;
-      order : GainsInOrder l.frame v.purse w.purse;
+      order : GainsInOrder (min l.frame v.frames) v.purse w.purse;
       busy : (x : ℕ) → IsIn v.busy x → IsIn w.busy x;
       every : (x : ℕ) → x < l.frame → IsIn w.busy x;
       told : g.H.Holder.tells → Told l.frame v w;
-      all : g.H.Holder.alone l.initial.holder → 0 < l.frame → HasEveryFrame w → FillsSpace w (g.H.Holder.aside l.holder);
+      all : g.H.Holder.alone l.initial.holder → HasEveryFrame w → FillsSpace w (g.H.Holder.aside l.holder);
     }

@@ -1,0 +1,4 @@
+-- Facts for other crates: the walk of the words.
+pub mod WalkOfBook
+-- Counts over the words.
+mod Sums
