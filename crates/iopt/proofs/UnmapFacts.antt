@@ -7,7 +7,7 @@ use Rattle.pt_model.specs.declared.reply.UnmapAnswer.TheVariants as unmapping
 use Rattle.pt_model.specs.Layout.{Layout, IsLegalBlock}
 use Rattle.pt_model.specs.Pages.{page_under, range_at}
 use Rattle.pt_model.specs.Book.{Book, is_inside}
-use Rattle.pt_model.specs.Unmap.{UnmapRefusal, Misaligned, OutsideLease, CutsEntry, is_cut, lowest_cut, pages_gone, unmap_refusal, unmapped}
+use Rattle.pt_model.specs.Unmap.{CutRefusal, Misaligned, OutsideLease, CutsEntry, is_cut, lowest_cut, pages_gone, unmap_refusal, unmapped}
 use Rattle.pt_model.specs.Run.{after_unmap, refused_unmap, unmap_answer}
 use Rattle.pt_book.proofs.ListFacts.{found_is}
 use Rattle.pt_view.specs.declared.view.View.{View}
@@ -19,7 +19,7 @@ use Rattle.iopt.proofs.MapFacts.{blocks_are}
 
 -- A block that is named as cut is one of the book.
 
-after_first : (t : Bool) (b : Block) (rest : Option UnmapRefusal) → (if not t then Some Misaligned else rest) ≡ Some (CutsEntry b) → rest ≡ Some (CutsEntry b)
+after_first : (t : Bool) (b : Block) (rest : Option CutRefusal) → (if not t then Some Misaligned else rest) ≡ Some (CutsEntry b) → rest ≡ Some (CutsEntry b)
 after_first true b rest e = e
 after_first false b rest e = absurd (let w : ⊥ = cc in w)
 
@@ -51,13 +51,13 @@ module _ (f : Layout) (v w : View) (ready : IsReady f v) (va len : ℕ) where
   abbrev count : ℕ
   count = len / 2 ^ f.granule
 
-  abbrev refusal : Option UnmapRefusal
+  abbrev refusal : Option CutRefusal
   refusal = unmap_refusal f (book_in v) va len
 
   abbrev after_it : Book
   after_it = unmapped f (book_in v) first count
 
-  answer_by : (o : Option UnmapRefusal) → refusal ≡ o →
+  answer_by : (o : Option CutRefusal) → refusal ≡ o →
       unmap_answer (machine_in f v) (book_in v) va len
       ≡ elim o [ Some r ↦ refused_unmap r | None ↦ unmapping.Unmapped (pages_gone (book_in v) first count) ]
   answer_by o e = λ i. elim (e i) [ Some r ↦ refused_unmap r | None ↦ unmapping.Unmapped (pages_gone (book_in v) first count) ]

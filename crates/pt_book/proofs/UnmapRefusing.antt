@@ -7,15 +7,15 @@ use Rattle.pt_model.specs.declared.block.Block.{Block}
 use Rattle.pt_model.specs.Layout.{Layout}
 use Rattle.pt_model.specs.Pages.{page_under, has_page, is_whole, range_at}
 use Rattle.pt_model.specs.Book.{Book, is_inside}
-use Rattle.pt_model.specs.Unmap.{UnmapRefusal, Misaligned, OutsideLease, CutsEntry, lowest_cut, unmap_refusal}
+use Rattle.pt_model.specs.Unmap.{CutRefusal, Misaligned, OutsideLease, CutsEntry, lowest_cut, unmap_refusal}
 use Rattle.pt_format.specs.Ranges.{span_of}
 use Rattle.pt_book.proofs.Refusing.{run, span_is}
 
 -- the last tests, and all that follow the first one
-abbrev pub answer_by : (inside : Bool) → Option Block → Option UnmapRefusal
+abbrev pub answer_by : (inside : Bool) → Option Block → Option CutRefusal
 answer_by inside cut = if not inside then Some OutsideLease else option_map CutsEntry cut
 
-abbrev pub stages : Book → Option (ℕ × ℕ) → Option UnmapRefusal
+abbrev pub stages : Book → Option (ℕ × ℕ) → Option CutRefusal
 stages book range = elim range [
   | None ↦ Some OutsideLease
   | Some range ↦ answer_by (is_inside book range.0 (range.0 + range.1)) (lowest_cut book range.0 (range.0 + range.1))
@@ -39,7 +39,7 @@ pub answer_is : (f : Layout) (book : Book) (va len : ℕ) (s : Span) (inside : B
     unmap_refusal f book va len ≡ answer_by inside cut
 answer_is f book va len s inside cut w e i c = refusal_is f book va len s w e ∙ ap₂ answer_by i c
 
-not_refused : (t : Bool) (r : UnmapRefusal) (rest : Option UnmapRefusal) → (if not t then Some r else rest) ≡ None → (t ≡ true) × (rest ≡ None)
+not_refused : (t : Bool) (r : CutRefusal) (rest : Option CutRefusal) → (if not t then Some r else rest) ≡ None → (t ≡ true) × (rest ≡ None)
 not_refused true r rest e = (refl, e)
 not_refused false r rest e = absurd (let w : ⊥ = cc in w)
 

@@ -9,7 +9,8 @@ pub mod Positions
 pub mod Tops
 -- The words of a space: a write at one place and a read at another.
 pub mod Places
--- The definitions at numbers: a first script, tables that go and tops that rise, and the words of families of formats that are still to come.
+-- The definitions at numbers: a first script, tables that go and tops that rise, forks, and the words of families of formats.
 pub mod FirstPath
 mod MachineCases
+mod ForkCases
 mod Families

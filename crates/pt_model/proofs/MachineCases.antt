@@ -7,11 +7,10 @@ use Rattle.pt_model.specs.declared.command.What.TheVariants.{Map, Unmap, Lookup}
 use Rattle.pt_model.specs.declared.command.Command.{Command}
 use Rattle.pt_model.specs.declared.position.Position.{Position}
 use Rattle.pt_model.specs.Layout.{Layout}
-use Rattle.pt_model.specs.Run.{Machine, book_of, run_of}
+use Rattle.pt_model.specs.Run.{Machine, ByAccount, last_book}
 use Rattle.pt_model.specs.Book.{Book, linked_count, mapped, new_book}
 use Rattle.pt_model.specs.Unmap.{unmapped}
-use Rattle.pt_model.specs.Text.{replies_text}
-use Rattle.pt_model.proofs.FirstPath.{on, three_levels}
+use Rattle.pt_model.proofs.FirstPath.{on, replies_to, three_levels}
 
 abbrev at : ℕ → ℕ → Position
 at level base = record { level = level; base = base }
@@ -42,28 +41,28 @@ machine = record { layout = growing; levels = 3; frames = 9 }
 abbrev past_three : List Command
 past_three = on 4 (Map 0x8000000000 0x1000 0x1000 Read) ∷ []
 
-pub top_rises : (book_of machine (new_book growing 3) past_three).top ≡ 3
+pub top_rises : (last_book machine ByAccount past_three).top ≡ 3
 top_rises = refl
 
-pub under_the_new_top : (book_of machine (new_book growing 3) past_three).tables ≡ at 0 0x8000000 ∷ at 1 0x8000000 ∷ at 2 0x8000000 ∷ []
+pub under_the_new_top : (last_book machine ByAccount past_three).tables ≡ at 0 0x8000000 ∷ at 1 0x8000000 ∷ at 2 0x8000000 ∷ []
 under_the_new_top = refl
 
-pub linked_at_four_levels : linked_count 3 (book_of machine (new_book growing 3) past_three) ≡ 5
+pub linked_at_four_levels : linked_count 3 (last_book machine ByAccount past_three) ≡ 5
 linked_at_four_levels = refl
 
 -- the last page needs all six levels and five tables under the top: nine frames are enough, and eight are too few
 abbrev last_page : List Command
 last_page = on 4 (Map 0xfffffffffffff000 0x0 0x1000 ReadWrite) ∷ on 5 (Lookup 0xffffffffffffffff) ∷ []
 
-pub nine_are_enough : replies_text machine.layout (run_of machine last_page) ≡ codes "4 map ok\n5 lookup 0xfff rw\n"
+pub nine_are_enough : replies_to machine last_page ≡ codes "4 map ok\n5 lookup 0xfff rw\n"
 unfolding digits
 nine_are_enough = refl
 
-pub eight_are_too_few : replies_text machine.layout (run_of (record machine { frames = 8 }) last_page) ≡ codes "4 map frames\n5 lookup none\n"
+pub eight_are_too_few : replies_to (record machine { frames = 8 }) last_page ≡ codes "4 map frames\n5 lookup none\n"
 unfolding digits
 eight_are_too_few = refl
 
-pub all_levels : (book_of machine (new_book growing 3) last_page).top ≡ 5
+pub all_levels : (last_book machine ByAccount last_page).top ≡ 5
 all_levels = refl
 
 -- Ranges that are taken away, in a tree of three levels: a block of 2 MiB whole and in part on either side, a table that
@@ -78,7 +77,7 @@ taken_away =
     ∷ on 10 (Unmap 0x3ff000 0x2000) ∷ on 11 (Unmap 0x3ff001 0x1000) ∷ on 12 (Unmap 0x3ff000 0x0) ∷ on 13 (Unmap 0x7ffffff000 0x2000)
     ∷ on 14 (Lookup 0x3fffff) ∷ on 15 (Unmap 0x1ff000 0x202000) ∷ on 16 (Unmap 0x0 0x8000000000) ∷ []
 
-pub taken_away_text : replies_text three_levels (run_of small taken_away)
+pub taken_away_text : replies_to small taken_away
     ≡ codes "4 map ok\n5 unmap ok 1\n6 unmap ok 1\n7 map ok\n8 unmap cuts 0x200000 0x200000\n9 unmap cuts 0x200000 0x200000\n10 unmap cuts 0x200000 0x200000\n11 unmap misaligned\n12 unmap misaligned\n13 unmap outside\n14 lookup 0x5fffff r\n15 unmap ok 512\n16 unmap ok 0\n"
 unfolding digits
 taken_away_text = refl

@@ -6,6 +6,8 @@ pub mod Tables
 pub mod Words
 pub mod Book
 pub mod Unmap
+pub mod Cuts
+pub mod Dumps
 pub mod Run
 pub mod Text
 pub mod Sets

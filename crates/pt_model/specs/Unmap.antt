@@ -6,11 +6,11 @@ use Rattle.pt_model.specs.Layout.{Layout, pages}
 use Rattle.pt_model.specs.Pages.{range_at, is_whole}
 use Rattle.pt_model.specs.Book.{Book, is_inside, meets, lies_in, table_lies_in}
 
-pub data UnmapRefusal : Type 0 where
-  Misaligned : UnmapRefusal
-  OutsideLease : UnmapRefusal
+pub data CutRefusal : Type 0 where
+  Misaligned : CutRefusal
+  OutsideLease : CutRefusal
   -- the lowest block that lies partly in the range
-  CutsEntry : Block → UnmapRefusal
+  CutsEntry : Block → CutRefusal
 
 -- whether a block has pages both among those from `first` to before `last` and elsewhere
 abbrev pub is_cut : (first last : ℕ) → Block → Bool
@@ -21,7 +21,7 @@ abbrev pub lowest_cut : Book → (first last : ℕ) → Option Block
 lowest_cut book first last = find (is_cut first last) book.blocks
 
 -- why the taking away of `len` bytes from address `va` is refused
-abbrev pub unmap_refusal : Layout → Book → (va len : ℕ) → Option UnmapRefusal
+abbrev pub unmap_refusal : Layout → Book → (va len : ℕ) → Option CutRefusal
 unmap_refusal f book va len =
     if not (is_whole f va && (is_whole f len && nat_lt 0 len)) then Some Misaligned else
     elim (range_at f va len) [

@@ -18,7 +18,9 @@ mod reply;
 pub use block::{Block, Prot};
 pub use command::{Ask, AskWhat, Command, Name, What};
 pub use position::Position;
-pub use reply::{Answer, LookupAnswer, MapAnswer, Reply, UnmapAnswer};
+pub use reply::{
+    Answer, Census, Dump, ForkAnswer, Listed, LookupAnswer, MapAnswer, Reply, UnmapAnswer,
+};
 
 /// There is one tiling of a range of pages, and the list `tiling` is it.
 pub fn has_one_tiling()

@@ -6,7 +6,7 @@ use Rattle.pt_model.specs.Layout.{Layout}
 use Rattle.pt_model.specs.Pages.{page_under}
 use Rattle.pt_model.specs.Sets.{IsAmong}
 use Rattle.pt_model.specs.Book.{Book, lies_in, meets, table_lies_in}
-use Rattle.pt_model.specs.Unmap.{UnmapRefusal, Misaligned, OutsideLease, CutsEntry, is_cut, lowest_cut, pages_gone, unmap_refusal, unmapped}
+use Rattle.pt_model.specs.Unmap.{CutRefusal, Misaligned, OutsideLease, CutsEntry, is_cut, lowest_cut, pages_gone, unmap_refusal, unmapped}
 use Rattle.pt_view.specs.declared.view.View.{View}
 use Rattle.pt_view.specs.declared.view.Change.TheVariants.{Cleared}
 use Rattle.pt_view.specs.Lists.{SameFrames}
@@ -20,7 +20,7 @@ use Rattle.pt_sweep.specs.declared.refused.UnmapRefused.{UnmapRefused}
 use Rattle.pt_sweep.specs.declared.refused.UnmapRefused.TheVariants as refused
 
 -- the refusal of the book machine that an answer is
-abbrev pub refusal_of : UnmapRefused → UnmapRefusal
+abbrev pub refusal_of : UnmapRefused → CutRefusal
 refusal_of refused.Misaligned = Misaligned
 refusal_of refused.OutsideLease = OutsideLease
 refusal_of (refused.CutsEntry block) = CutsEntry block

@@ -2,7 +2,7 @@ use Rattle.std.proofs.Common.{rules, ◌≡◌, ◌+◌, List, Option, Some, fal
 use Rattle.std.specs.Prelude.{find, option_map}
 use Rattle.pt_model.specs.declared.block.Block.{Block}
 use Rattle.pt_model.specs.Layout.{IsLegalBlock}
-use Rattle.pt_model.specs.Unmap.{UnmapRefusal, is_cut, lowest_cut, unmap_refusal}
+use Rattle.pt_model.specs.Unmap.{CutRefusal, is_cut, lowest_cut, unmap_refusal}
 use Rattle.pt_model.specs.Run.{refused_unmap}
 use Rattle.pt_format.proofs.PageFacts.{under_small, count_small}
 use Rattle.pt_book.specs.Spaces.{Space}
@@ -23,7 +23,7 @@ returns-then-not-is_inside-clause-answer g c =
     let f = g.F.Format.layout in
     let book = plain_book f c.self.inside.first c.self.inside.count c.self.inside.blocks.items in
     sym (ap (λ (s : Space). option_map refused_unmap (unmap_refusal f s.book c.args.va c.args.len)) (sym c.self.view_is)
-    ∙ ap (λ (o : Option UnmapRefusal). option_map refused_unmap o)
+    ∙ ap (λ (o : Option CutRefusal). option_map refused_unmap o)
     (answer_is f book c.args.va c.args.len c.in-Some.span false (lowest_cut book c.in-Some.span.first (c.in-Some.span.first + c.in-Some.span.count))
     (search rules) c.in-Some.ensures (sym c.if-not-is_inside.ensures) refl))
 
