@@ -8,6 +8,7 @@ use Rattle.pt_model.specs.Layout.{level_of_size, page}
 use Rattle.pt_model.specs.Words.{root_frame}
 use Rattle.pt_format.specs.Words.{MayBeLeaf, IsTableAddress, IsTableLevel}
 use Rattle.pt_format.specs.Laws.{HasConstants, IsLayout, WordsDiffer}
+use Rattle.pt_format.specs.FourKibLaws.{layout_of}
 use Rattle.pt_format.specs.Manual.{IsRooted, IsWalk, StepsAgree}
 use Rattle.pt_manual.specs.AmdWalk.{manual, mode, next_level}
 use Rattle.pt_manual.proofs.AmdFacts.{rooted, walk_is}
@@ -25,25 +26,10 @@ has_constants =
     record { granule_is = refl; index_is = refl; input_is = refl; output_is = refl; start_is = refl; levels_is = refl; grows_is = refl; signed_is = refl }
 
 pub lawful_layout : IsLayout layout
-lawful_layout = record {
-  granule_low = omega arith;
-  granule_high = omega arith;
-  index_is = refl;
-  start_low = omega arith;
-  start_high = omega arith;
-  levels_high = omega arith;
-  fixed = λ e. absurd (let w : ⊥ = cc in w);
-  input_low = omega arith;
-  input_high = omega arith;
-  pages_high = omega arith;
-  has_levels = omega arith;
-  output_low = omega arith;
-  output_high = omega arith;
-  has_pages = refl;
-  sizes_low = λ k size. (size_of (level_of_size layout k) k size refl).low_level;
-  states_read = refl;
-  states_both = refl;
-}
+lawful_layout =
+    layout_of layout 12 9 64 52 3 6 true false has_constants (omega arith) (omega arith) refl (omega arith) (omega arith) (omega arith)
+    (λ e. absurd (let w : ⊥ = cc in w)) (omega arith) (omega arith) (omega arith) (omega arith) (omega arith) (omega arith)
+    refl (λ k size. (size_of (level_of_size layout k) k size refl).low_level) refl refl
 
 -- a leaf and a pointer as this format has them
 pub leaf_of : {level log2 out part : ℕ} {prot : Prot} → MayBeLeaf layout level log2 out prot part → (word : ℕ) → word ≡ leaf level log2 out prot →

@@ -5,7 +5,7 @@ ghost use Rattle.fmt_amdv1.specs.AmdWords.{layout};
 ghost use Rattle.fmt_amdv1.specs.AmdLaws as Laws;
 
 use crate::words;
-use pt_format::{Format, Prot, Read, WordRun};
+use pt_format::{Format, Prot, Read, WordRun, block_bytes, page_in};
 
 /// Tables of I/O pages of three to six levels.
 #[derive(Drop)]
@@ -69,7 +69,7 @@ impl Format for AmdV1 {
         if log2 == 9 * level {
             WordRun {
                 blocks: count,
-                step: words::step(log2),
+                step: block_bytes(log2),
             }
         } else {
             WordRun { blocks: 1, step: 0 }
@@ -106,12 +106,12 @@ impl Format for AmdV1 {
     }
 
     fn address_of(_level: u32, word: u64) -> u64 {
-        words::number_in(word) << 12
+        page_in(word) << 12
     }
 
     fn out_of(level: u32, word: u64, page: u64) -> u64 {
         let pages = 1 << words::log2_in(level, word);
-        let number = words::number_in(word);
+        let number = page_in(word);
         number - number % pages + page % pages
     }
 }

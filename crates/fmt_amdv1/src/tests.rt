@@ -1,48 +1,38 @@
 //! Words worked out from the manual's tables by hand, and a walk over some of them.
 
 ghost use Rattle.std.specs.Prelude.{◌<◌};
+ghost use Rattle.pt_model.specs.declared.block.Prot.{Prot};
+ghost use Rattle.pt_format.specs.Words.{MayBeLeaf};
+ghost use Rattle.fmt_amdv1.specs.AmdWords.{layout};
 
 use crate::AmdV1;
 use pt_format::{Format, Prot, Read};
 use pt_manual::{Walked, walk_amdv1};
 use std::test::Fail;
 
-fn reads_as(level: u32, word: u64, log2: u32, prot: Prot) -> bool
-    requires { level < 6 }
+/// Whether this is the word of a part of a block, and is read back.
+fn is_word(level: u32, log2: u32, out: u64, prot: Prot, part: u64, word: u64) -> bool
+    requires below { level < 6 }
+    requires leaf { MayBeLeaf layout level log2 out prot part }
 {
-    AmdV1::read_word(level, word) == Read::Leaf { log2, prot }
+    AmdV1::leaf_word(level, log2, out, prot, part) == word
+        && AmdV1::read_word(level, word) == Read::Leaf { log2, prot }
 }
 
 #[test]
 fn pages_of_what_an_entry_maps(rt: HostRuntime) {
-    let word = AmdV1::leaf_word(0, 0, 1, Prot::Read, 0);
-    assert_eq!(rt; word, 0x2000_0000_0000_1001);
-    assert!(rt; reads_as(0, word, 0, Prot::Read));
-    let word = AmdV1::leaf_word(1, 9, 0x200, Prot::ReadWrite, 0);
-    assert_eq!(rt; word, 0x6000_0000_0020_0001);
-    assert!(rt; reads_as(1, word, 9, Prot::ReadWrite));
-    let word = AmdV1::leaf_word(2, 18, 0x4_0000, Prot::Read, 0);
-    assert_eq!(rt; word, 0x2000_0000_4000_0001);
-    assert!(rt; reads_as(2, word, 18, Prot::Read));
+    assert!(rt; is_word(0, 0, 1, Prot::Read, 0, 0x2000_0000_0000_1001));
+    assert!(rt; is_word(1, 9, 0x200, Prot::ReadWrite, 0, 0x6000_0000_0020_0001));
+    assert!(rt; is_word(2, 18, 0x4_0000, Prot::Read, 0, 0x2000_0000_4000_0001));
 }
 
 #[test]
 fn pages_of_coded_sizes(rt: HostRuntime) {
-    let word = AmdV1::leaf_word(0, 1, 2, Prot::Read, 1);
-    assert_eq!(rt; word, 0x2000_0000_0000_2e01);
-    assert!(rt; reads_as(0, word, 1, Prot::Read));
-    let word = AmdV1::leaf_word(0, 3, 0x108, Prot::ReadWrite, 7);
-    assert_eq!(rt; word, 0x6000_0000_0010_be01);
-    assert!(rt; reads_as(0, word, 3, Prot::ReadWrite));
-    let word = AmdV1::leaf_word(0, 8, 0x100, Prot::ReadWrite, 255);
-    assert_eq!(rt; word, 0x6000_0000_0017_fe01);
-    assert!(rt; reads_as(0, word, 8, Prot::ReadWrite));
-    let word = AmdV1::leaf_word(1, 10, 0x400, Prot::ReadWrite, 1);
-    assert_eq!(rt; word, 0x6000_0000_005f_fe01);
-    assert!(rt; reads_as(1, word, 10, Prot::ReadWrite));
-    let word = AmdV1::leaf_word(2, 26, 0x400_0000, Prot::Read, 255);
-    assert_eq!(rt; word, 0x2000_005f_ffff_fe01);
-    assert!(rt; reads_as(2, word, 26, Prot::Read));
+    assert!(rt; is_word(0, 1, 2, Prot::Read, 1, 0x2000_0000_0000_2e01));
+    assert!(rt; is_word(0, 3, 0x108, Prot::ReadWrite, 7, 0x6000_0000_0010_be01));
+    assert!(rt; is_word(0, 8, 0x100, Prot::ReadWrite, 255, 0x6000_0000_0017_fe01));
+    assert!(rt; is_word(1, 10, 0x400, Prot::ReadWrite, 1, 0x6000_0000_005f_fe01));
+    assert!(rt; is_word(2, 26, 0x400_0000, Prot::Read, 255, 0x2000_005f_ffff_fe01));
 }
 
 #[test]

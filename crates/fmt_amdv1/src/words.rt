@@ -9,7 +9,7 @@ ghost use Rattle.fmt_amdv1.specs.AmdWords.{IsLeafOf, IsNoLeaf, IsNoPointer, IsPo
 
 use crate::entry::Entry;
 use bitflags::Flags;
-use pt_format::{Prot, is_frame_address};
+use pt_format::{Prot, is_frame_address, page_in};
 
 /// The next level of a leaf whose size is coded in its address.
 const CODED: u64 = 7;
@@ -60,22 +60,6 @@ pub fn table_word(level: u32, address: u64) -> u64
     word_of(address >> 12, level as u64, Prot::ReadWrite)
 }
 
-/// What is added to the word of a block of what an entry maps to make that of the next one of its size.
-pub fn step(log2: u32) -> u64
-    requires { log2 < 40 }
-    ensures { result ≡ 2 ^ (12 + log2) }
-{
-    1 << (12 + log2)
-}
-
-/// The number in bits 51:12.
-pub fn number_in(word: u64) -> u64
-    ensures number { result ≡ AmdWords.number_in word }
-    ensures within { result < 2 ^ 40 }
-{
-    word >> 12 & 0xff_ffff_ffff
-}
-
 /// The next level, in bits 11:9.
 pub fn next_level_in(word: u64) -> u64
     ensures next { result ≡ AmdWalk.next_level word }
@@ -90,7 +74,7 @@ pub fn log2_in(level: u32, word: u64) -> u32
     ensures { result ≡ AmdWords.log2_in level word }
 {
     if next_level_in(word) == CODED {
-        number_in(word).trailing_ones() + 1
+        page_in(word).trailing_ones() + 1
     } else {
         9 * level
     }
@@ -117,7 +101,7 @@ pub fn read_size(level: u32, word: u64) -> Option<u32>
     if level > 2 || log2 / 9 != level {
         return None;
     }
-    let number = number_in(word);
+    let number = page_in(word);
     let out = number - number % (1 << log2);
     if word == leaf_word(level, log2, out, permission_in(word)) {
         Some(log2)
@@ -131,7 +115,7 @@ pub fn read_pointer(level: u32, word: u64) -> Option<u64>
     requires { level < 6 }
     ensures { MatchOption result (IsNoPointer level word) (λ address. IsPointerOf level word address) }
 {
-    let address = number_in(word) << 12;
+    let address = page_in(word) << 12;
     if level > 0 && is_frame_address(12, address) && word == table_word(level, address) {
         Some(address)
     } else {

@@ -1,3 +1,4 @@
 pub mod OverPages
 pub mod ManualEntries
 pub mod ManualLayout
+pub mod CommonWords

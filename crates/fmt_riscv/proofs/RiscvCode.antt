@@ -10,7 +10,7 @@ use Rattle.pt_format.specs.Manual.{IsOutput}
 use Rattle.pt_format.proofs.BitFacts.{and_end, one_bit_set, or_bit, or_low}
 use Rattle.pt_format.proofs.Permissions.{of_common}
 use Rattle.pt_manual.specs.RiscvWalk.{number_in}
-use Rattle.fmt_riscv.specs.RiscvWords.{AreLevels, IsPointerOf, IsSingle, IsSixteen, layout, leaf, of_leaf, pointer, single, sixteen}
+use Rattle.fmt_riscv.specs.RiscvWords.{AreLevels, IsPermissionIn, IsPointerOf, IsSingle, IsSixteen, layout, leaf, of_leaf, pointer, single, sixteen}
 use Rattle.fmt_riscv.specs.Sizes.{IsSizeOf, an_entry, of_sixteen, entry_size, size_of, sixteen_size}
 use Rattle.fmt_riscv.specs.RiscvFacts.{leaf_of_entry, leaf_small, not_four}
 use Rattle.fmt_riscv.specs.RiscvLaws.{a_single, a_sixteen, few, leaf_found, leaf_word}
@@ -33,6 +33,14 @@ single_end {level} {out} {word} {prot} x = let low = single_low x in omega arith
 
 pub sixteen_end : {out word : ℕ} {prot : Prot} → IsSixteen out word prot → word % 2 ^ 7 ≡ of_leaf prot % 2 ^ 7
 sixteen_end {out} {word} {prot} x = let low = sixteen_low x in omega arith
+
+-- what tells the permission of the low bits tells that of the word
+pub permission_is : {word : ℕ} (result : Prot) →
+    ((prot : Prot) → IsTrue (is_common prot) → word % 2 ^ 7 ≡ of_leaf prot % 2 ^ 7 → result ≡ prot) → IsPermissionIn word result
+permission_is result tells = record {
+  of_single = λ level out prot x. tells prot x.stated (single_end x);
+  of_sixteen = λ out prot x. tells prot x.stated (sixteen_end x);
+}
 
 pub pointer_number : {level word address : ℕ} → IsPointerOf level word address → number_in word * 2 ^ 12 ≡ address
 pointer_number p = let frame = p.a_frame.in_limit in let at = p.a_frame.address_is in omega (arith, p.word_is)

@@ -6,6 +6,7 @@ use Rattle.pt_model.specs.declared.block.Prot.{Prot}
 use Rattle.pt_model.specs.Layout.{is_size, level_of_size, page}
 use Rattle.pt_format.specs.Words.{MayBeLeaf, IsPointer, IsTableAddress}
 use Rattle.pt_format.specs.Laws.{HasConstants, IsLayout, WordsDiffer}
+use Rattle.pt_format.specs.FourKibLaws.{layout_of}
 use Rattle.pt_format.specs.Manual.{StepsAgree}
 use Rattle.pt_manual.specs.VmsaWalk.{BLOCK, IsGranule, descriptor_at, index_bits}
 use Rattle.fmt_nine_bit.proofs.BlockFacts.{place}
@@ -30,25 +31,14 @@ has_constants granule levels are = record {
 
 pub lawful_layout : {granule : ℕ} → IsGranule granule → IsLayout (layout granule)
 lawful_layout {granule} is =
-    let range = granule_range is in let levels = few_levels is in record {
-      granule_low = range.0;
-      granule_high = range.1;
-      index_is = let low = range.0 in omega arith;
-      start_low = levels.0;
-      start_high = omega arith;
-      levels_high = let high = levels.1 in omega arith;
-      fixed = λ e. refl;
-      input_low = let high = range.1 in omega arith;
-      input_high = omega arith;
-      pages_high = omega arith;
-      has_levels = by_granule (λ g. 48 ≤ g + (g - 3) * levels_of g) (omega arith) (omega arith) (omega arith) is;
-      output_low = omega arith;
-      output_high = omega arith;
-      has_pages = by_granule (λ g. IsTrue (is_size (layout g) 0)) refl refl refl is;
-      sizes_low = λ k size. (room is (level_of_size (layout granule) k) (is_size_of is k size).leaves).below;
-      states_read = refl;
-      states_both = refl;
-    }
+    let range = granule_range is in let counts = few_levels is in
+    let low = range.0 in let high = range.1 in let some = counts.0 in let few = counts.1 in
+    let levels : ℕ = levels_of granule in
+    layout_of (layout granule) granule (index_bits granule) 48 48 levels levels false false (has_constants granule levels refl)
+    low high (omega arith) some (omega arith) (omega arith) (λ e. refl) (omega arith) (omega arith) (omega arith)
+    (by_granule (λ g. 48 ≤ g + (g - 3) * levels_of g) (omega arith) (omega arith) (omega arith) is) (omega arith) (omega arith)
+    (by_granule (λ g. IsTrue (is_size (layout g) 0)) refl refl refl is)
+    (λ k size. (room is (level_of_size (layout granule) k) (is_size_of is k size).leaves).below) refl refl
 
 -- bit 52 tells whether an entry is of a group
 one_group : (c d : Bool) → in_group c ≡ in_group d → c ≡ d

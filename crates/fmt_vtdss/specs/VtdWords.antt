@@ -1,31 +1,19 @@
 -- The words of VT-d second-stage tables.
-use Rattle.std.specs.Prelude.{ℕ, ◌+◌, ◌*◌, ◌^◌, List}
+use Rattle.std.specs.Prelude.{ℕ, ◌+◌, ◌*◌, ◌^◌}
 use Rattle.pt_model.specs.declared.block.Prot.{Prot}
-use Rattle.pt_model.specs.Layout.{Layout, Reached, is_common}
-use Rattle.pt_format.specs.FourKib.{Entries, Tables, read_bit, write_bit, tables}
-use Rattle.pt_format.specs.FourKib as FourKib
-use Rattle.pt_manual.specs.VtdWalk.{manual, walk}
-use Rattle.fmt_nine_bit.specs.OverPages.{reached}
-use Rattle.fmt_nine_bit.specs.ManualEntries.{entries_by}
+use Rattle.pt_model.specs.Layout.{Layout}
+use Rattle.pt_format.specs.FourKib.{read_bit, write_bit}
+use Rattle.pt_manual.specs.VtdWalk.{entry_at, walk}
+use Rattle.fmt_nine_bit.specs.CommonWords.{CommonWords, layout_of}
 
 -- R and W, as the permission says
 abbrev pub of_leaf : Prot → ℕ
 of_leaf prot = read_bit prot + write_bit prot
 
--- R and W
-abbrev pub of_pointer : ℕ
-of_pointer = 2 ^ 0 + 2 ^ 1
-
-abbrev pub entries : Entries
-entries = entries_by manual is_common of_leaf of_pointer
-
--- the manual's walk
-abbrev pub walk_of : (levels : ℕ) → List ℕ → (address : ℕ) → Reached
-walk_of levels words address = reached (walk words levels address)
+-- a pointer has R and W; an input address has 12 bits of offset and 9 for each level
+abbrev pub words : CommonWords
+words = record { entry = entry_at; walk = walk; of_leaf = of_leaf; of_pointer = 2 ^ 0 + 2 ^ 1; input = λ levels. 12 + 9 * levels }
 
 -- tables of three, four or five levels
-abbrev pub tables_of : (levels : ℕ) → Tables
-tables_of levels = tables entries levels (12 + 9 * levels) (walk_of levels)
-
 abbrev pub layout : (levels : ℕ) → Layout
-layout levels = FourKib.layout (tables_of levels)
+layout = layout_of words

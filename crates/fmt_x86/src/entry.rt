@@ -1,8 +1,10 @@
 //! The bits of an entry.
 
 ghost use Rattle.std.specs.Prelude.{⊤, ◌≡◌, [], ◌∷◌, codes};
-ghost use Rattle.fmt_x86.specs.X86Words.{entries};
-ghost use Rattle.fmt_x86.specs.X86Laws as Laws;
+ghost use Rattle.fmt_nine_bit.specs.CommonWords.{entries_of};
+ghost use Rattle.fmt_nine_bit.proofs.CommonEntries as Laws;
+ghost use Rattle.fmt_x86.specs.X86Words.{words};
+ghost use Rattle.fmt_x86.specs.X86Laws.{forms};
 
 use bitflags::{Flag, Flags, bitflag_items};
 use pt_format::{EntryBits, Prot};
@@ -44,13 +46,13 @@ impl Flags for Entry {
 }
 
 impl EntryBits for Entry {
-    ghost entries = { entries };
+    ghost entries = { entries_of words };
 
     ghost is_exact = { tt };
 
-    ghost are_bits = { Laws.are_bits };
+    ghost are_bits = { Laws.are_bits forms };
 
-    ghost are_read = { Laws.are_read };
+    ghost are_read = { Laws.are_read forms };
 
     fn of_leaf(prot: Prot) -> Entry {
         let mut bits = Entry::PRESENT;

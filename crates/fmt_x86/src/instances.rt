@@ -1,8 +1,10 @@
 //! The format at each number of levels.
 
 ghost use Rattle.std.specs.Prelude.{ℕ, refl};
-ghost use Rattle.fmt_x86.specs.X86Words.{walk_of};
-ghost use Rattle.fmt_x86.specs.X86Laws as Laws;
+ghost use Rattle.fmt_nine_bit.specs.CommonWords.{walk_of};
+ghost use Rattle.fmt_nine_bit.proofs.CommonEntries.{are_tables};
+ghost use Rattle.fmt_x86.specs.X86Words.{words};
+ghost use Rattle.fmt_x86.specs.X86Laws.{forms};
 
 use crate::Entry;
 use pt_format::{FourKib, FourKibTables};
@@ -16,9 +18,9 @@ impl FourKibTables<4> for Entry {
 
     ghost INPUT = { 47 };
 
-    ghost walk = { walk_of 4 };
+    ghost walk = { walk_of words 4 };
 
-    ghost are_tables = { Laws.are_tables 4 refl refl };
+    ghost are_tables = { are_tables forms 4 refl refl };
 }
 
 impl FourKibTables<5> for Entry {
@@ -26,7 +28,7 @@ impl FourKibTables<5> for Entry {
 
     ghost INPUT = { 56 };
 
-    ghost walk = { walk_of 5 };
+    ghost walk = { walk_of words 5 };
 
-    ghost are_tables = { Laws.are_tables 5 refl refl };
+    ghost are_tables = { are_tables forms 5 refl refl };
 }

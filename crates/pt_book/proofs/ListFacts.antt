@@ -1,11 +1,12 @@
 -- What a search finds, lists of legal blocks, and blocks in the order of first pages.
-use Rattle.std.proofs.Common.{◌≡◌, ℕ, suc, ◌+◌, ◌-◌, ◌^◌, ◌<◌, ◌≤◌, Bool, true, false, inl, inr, List, [], ◌∷◌, length, get_or, drop, Option, Some, refl, ap, sym, subst, ◌∙◌, arith, ◌⊎◌}
-use Rattle.std.specs.Prelude.{nat_lt, filter, find, not, All, AllPairs, cond}
+use Rattle.std.proofs.Common.{◌≡◌, ℕ, suc, ◌+◌, ◌-◌, ◌^◌, ◌<◌, ◌≤◌, Bool, true, false, inl, inr, List, [], ◌∷◌, length, get_or, drop, Option, Some, refl, ap, sym, subst, ◌∙◌, arith, ◌⊎◌, Vec, Global}
+use Rattle.std.specs.Prelude.{nat_lt, filter, find, not, All, AllPairs, cond, IfOk, Result}
 use Rattle.std.proofs.lemmas.Bool.{cases_eq, cases_lt, le-ltb}
 use Rattle.std.proofs.lemmas.List.Elements.{All-append, All-cons, All-filter}
 use Rattle.std.proofs.lemmas.List.{get_or-drop, get_or_default, length-drop}
 use Rattle.std.proofs.lemmas.List.Kept.{AllPairs-cons}
 use Rattle.std.proofs.Math.Pow.{pow_mono}
+use Rattle.std.proofs.lemmas.Result.{IfOk-weaker}
 use Rattle.pt_model.specs.declared.block.Block.{Block}
 use Rattle.pt_model.specs.declared.block.Prot.{Prot}
 use Rattle.pt_model.specs.Layout.{Layout, IsLegal, IsLegalBlock, pages}
@@ -98,3 +99,9 @@ none_left page bs i d ordered h from =
           let inside : i + k < length bs = omega (arith, length-drop i bs) in
           omega (arith, here, ap (λ (b : Block). b.first) at, ordered i (i + k) e (omega arith) inside)
     ])
+
+-- what holds of a list holds of a vector that is answered with its items
+pub answered : {E : Type 0} (r : Result (Vec Block Global) E) (list : List Block) (P : List Block → Type 0) → P list →
+    IfOk r (λ (bs : Vec Block Global). bs.items ≡ list) → IfOk r (λ (bs : Vec Block Global). P bs.items)
+answered r list P holds e =
+    IfOk-weaker r (λ (bs : Vec Block Global). bs.items ≡ list) (λ (bs : Vec Block Global). P bs.items) (λ bs is. subst P (sym is) holds) e

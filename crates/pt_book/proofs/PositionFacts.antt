@@ -217,3 +217,9 @@ last_reaches f l last level within e =
 -- the levels of the spine
 pub levels_counted : (levels top : ℕ) → 2 ≤ levels → levels - 1 ≤ top → top + 2 - levels ≡ length (levels_between (starting_top levels) top)
 levels_counted levels top some low = sym (length-range_with_len (starting_top levels) (top + 1 - starting_top levels) ∙ omega arith)
+
+-- where an index of a table has more bits than a number, the table has more pages than one
+pub past_numbers : (f : Layout) (index level : ℕ) → index ≡ f.index → 64 ≤ index * (level + 1) → 2 ^ 64 ≤ pages_of_table f level
+past_numbers f index level is high =
+    let bits : index * (level + 1) ≡ f.index * (level + 1) = ap (λ n. n * (level + 1)) is in
+    power_mono 64 (f.index * (level + 1)) (omega arith)

@@ -12,6 +12,7 @@ use Rattle.pt_model.specs.Tables.{starting_top}
 use Rattle.pt_model.specs.Book.{Book, MapRefusal, Misaligned, OutsideLease, OutputRange, Occupied, is_inside, meets, lowest_mapped, map_refusal}
 use Rattle.pt_format.specs.Ranges.{span_of}
 use Rattle.pt_format.specs.Laws.{IsLayout}
+use Rattle.pt_format.proofs.PageFacts.{count_small, under_small}
 
 some_if : (t : Bool) (x y : ℕ) → Some y ≡ (if t then Some x else None) → y ≡ x
 some_if true x y e = cc
@@ -38,6 +39,13 @@ pub span_is : (f : Layout) (va len : ℕ) (s : Span) → Some s ≡ option_map s
 span_is f va len s e =
     span_if (has_page f va && (has_page f (va + len - 1) && (nat_le (va + len) (2 ^ 64)
     && (page_under f va + len / 2 ^ f.granule == page_under f (va + len - 1) + 1)))) (page_under f va) (len / 2 ^ f.granule) s e
+
+-- its end is a number of 64 bits
+pub end_small : {f : Layout} → IsLayout f → (va len : ℕ) (s : Span) → len < 2 ^ 64 → Some s ≡ option_map span_of (range_at f va len) →
+    s.first + s.count < 2 ^ 64
+end_small {f} l va len s fits e =
+    let span = span_is f va len s e in
+    omega (arith, span.1, span.2, under_small f va l, count_small f len l fits)
 
 -- a book with no tables
 abbrev pub plain_book : Layout → (first count : ℕ) → List Block → Book

@@ -1,5 +1,5 @@
 -- The laws of formats, for tables of 512 entries over pages of 4 KiB.
-use Rattle.std.proofs.Common.{◌≡◌, ◌≢◌, ℕ, zero, suc, ◌+◌, ◌-◌, ◌*◌, ◌%◌, ◌^◌, ◌<◌, ◌≤◌, refl, ap, ◌∙◌, arith, false, ap₂}
+use Rattle.std.proofs.Common.{◌≡◌, ◌≢◌, ℕ, zero, suc, ◌+◌, ◌-◌, ◌*◌, ◌%◌, ◌^◌, ◌<◌, ◌≤◌, refl, ap, ◌∙◌, arith, false, ap₂, sym, Bool}
 use Rattle.std.specs.Prelude.{IsTrue}
 use Rattle.std.proofs.lemmas.Nat.{pow_pos}
 use Rattle.std.proofs.lemmas.Grind.{common_steps}
@@ -20,22 +20,25 @@ pub size_of_level : (t : Tables) (level k : ℕ) → IsTrue (is_size (layout t) 
     (9 * level ≡ k) × (level < 3)
 size_of_level t level k size at = (grind (arith, common_steps), grind (arith, common_steps))
 
--- tables of 512 entries over pages of 4 KiB, of so many levels, are a layout where their sizes and permissions are
-pub fixed_layout : (f : Layout) (input output levels : ℕ) → HasConstants f 12 9 input output levels levels false false →
-    3 ≤ levels → levels ≤ 5 → 12 < input → input ≤ 12 + 9 * levels → 48 ≤ output → output ≤ 56 →
+-- a layout by its constants, its sizes and its permissions
+pub layout_of : (f : Layout) (granule index input output start levels : ℕ) (grows signed : Bool) →
+    HasConstants f granule index input output start levels grows signed →
+    12 ≤ granule → granule ≤ 16 → index + 3 ≡ granule → 3 ≤ start → start ≤ levels → levels ≤ 6 → (grows ≡ false → start ≡ levels) →
+    granule < input → input ≤ 64 → input ≤ granule + 52 → input ≤ granule + index * levels → 48 ≤ output → output ≤ 56 →
     IsTrue (is_size f 0) → ((k : ℕ) → IsTrue (is_size f k) → level_of_size f k < f.start) → IsTrue (f.states Read) → IsTrue (f.states ReadWrite) →
     IsLayout f
-fixed_layout f input output levels c low high some few low' high' pages sizes read both =
-    let granule = c.granule_is in let index = c.index_is in let input_is = c.input_is in let output_is = c.output_is in
-    let start = c.start_is in let levels_are = c.levels_is in
-    let room : f.index * f.levels ≡ 9 * levels = ap₂ (λ a b. a * b) index levels_are in
+layout_of f granule index input output start levels grows signed c granule_low granule_high index_by start_low start_high levels_high fixed
+    input_low input_high pages_high has_levels output_low output_high pages sizes read both =
+    let granule_is = c.granule_is in let index_is = c.index_is in let input_is = c.input_is in let output_is = c.output_is in
+    let start_is = c.start_is in let levels_are = c.levels_is in
+    let room : f.index * f.levels ≡ index * levels = ap₂ (λ a b. a * b) index_is levels_are in
     record {
       granule_low = omega arith;
       granule_high = omega arith;
       index_is = omega arith;
       start_low = omega arith;
       start_high = omega arith;
-      fixed = λ e. omega arith;
+      fixed = λ e. start_is ∙ fixed (sym c.grows_is ∙ e) ∙ sym levels_are;
       levels_high = omega arith;
       input_low = omega arith;
       input_high = omega arith;
@@ -48,6 +51,15 @@ fixed_layout f input output levels c low high some few low' high' pages sizes re
       states_read = read;
       states_both = both;
     }
+
+-- tables of 512 entries over pages of 4 KiB, of so many levels, are a layout where their sizes and permissions are
+pub fixed_layout : (f : Layout) (input output levels : ℕ) → HasConstants f 12 9 input output levels levels false false →
+    3 ≤ levels → levels ≤ 5 → 12 < input → input ≤ 12 + 9 * levels → 48 ≤ output → output ≤ 56 →
+    IsTrue (is_size f 0) → ((k : ℕ) → IsTrue (is_size f k) → level_of_size f k < f.start) → IsTrue (f.states Read) → IsTrue (f.states ReadWrite) →
+    IsLayout f
+fixed_layout f input output levels c low high some few =
+    layout_of f 12 9 input output levels levels false false c (omega arith) (omega arith) (omega arith) low (omega arith) (omega arith)
+    (λ e. refl) some (omega arith) (omega arith) few
 
 pub lawful_layout : {t : Tables} → AreTables t → IsLayout (layout t)
 lawful_layout {t} good =

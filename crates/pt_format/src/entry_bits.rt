@@ -42,7 +42,8 @@ pub trait EntryBits: Flags<Bits = u64> {
 
 /// The output page in bits 51:12 of a word.
 pub fn page_in(word: u64) -> u64
-    ensures { result ≡ word / 2 ^ 12 % 2 ^ 40 }
+    ensures page { result ≡ word / 2 ^ 12 % 2 ^ 40 }
+    ensures within { result < 2 ^ 40 }
 {
     word >> 12 & 0xff_ffff_ffff
 }
@@ -60,8 +61,9 @@ pub fn sizes(level: u32) -> u64
     }
 }
 
-/// What is added to the word of a block to make that of the next one of its size.
-pub fn step(log2: u32) -> u64
+/// The bytes of a block, which are what is added to its word to make that of the next one of its size where the address
+/// stands in place.
+pub fn block_bytes(log2: u32) -> u64
     requires { log2 < 52 }
     ensures { result ≡ 2 ^ (12 + log2) }
 {

@@ -86,7 +86,7 @@ impl<E: FourKibTables<L>, const L: u32> Format for FourKib<E, L> {
     fn word_run(_level: u32, log2: u32, _out: u64, _prot: Prot, count: u64) -> WordRun {
         WordRun {
             blocks: count,
-            step: entry_bits::step(log2),
+            step: entry_bits::block_bytes(log2),
         }
     }
 

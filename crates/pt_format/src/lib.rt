@@ -17,7 +17,7 @@ mod pages;
 mod read;
 mod word_run;
 
-pub use entry_bits::EntryBits;
+pub use entry_bits::{EntryBits, block_bytes, page_in};
 pub use format::Format;
 pub use four_kib::{FourKib, FourKibTables};
 pub use frame_address::is_frame_address;

@@ -15,7 +15,7 @@ use Rattle.pt_script.specs.declared.line.Line.TheVariants as form
 use Rattle.pt_script.specs.Lines.{name_text, keyword_text, keyword_of, operands, format_operands, text_of, is_stated, are_stated_levels}
 use Rattle.pt_script.specs.Text.{script_text, words, all_stated}
 use Rattle.pt_script.proofs.Steps.{both, less}
-use Rattle.pt_script.proofs.WordLemmas.{NoFeed, no_feed, words_of_text}
+use Rattle.pt_script.proofs.WordLemmas.{NoFeed, format_name, no_feed, words_of_text}
 
 pub same_front : (a b r q : List ℕ) → NoFeed a → NoFeed b → a ++ 10 ∷ r ≡ b ++ 10 ∷ q → (a ≡ b) × (r ≡ q)
 same_front [] [] r q n m e = (refl, cc)
@@ -67,20 +67,6 @@ prot_injective Read Read e = refl
 prot_injective ReadWrite ReadWrite e = refl
 prot_injective Read ReadWrite e = absurd (omega (arith, ap (λ t. get_or t 1 0) e))
 prot_injective ReadWrite Read e = absurd (omega (arith, ap (λ t. get_or t 1 0) e))
-
-format_name : (name : Name) (levels : ℕ) → get_or (format_operands name levels) 0 [] ≡ name_text name
-format_name AmdV1 levels = refl
-format_name VtdSs3 levels = refl
-format_name VtdSs4 levels = refl
-format_name VtdSs5 levels = refl
-format_name X86L4 levels = refl
-format_name X86L5 levels = refl
-format_name Vmsa4 levels = refl
-format_name Vmsa16 levels = refl
-format_name Vmsa64 levels = refl
-format_name Sv39 levels = refl
-format_name Sv48 levels = refl
-format_name Sv57 levels = refl
 
 fixed_levels : (a b n : ℕ) → (a == n) ≡ true → (b == n) ≡ true → a ≡ b
 fixed_levels a b n h k = eqb-true a n h ∙ sym (eqb-true b n k)

@@ -265,23 +265,25 @@ pub unspelled : (raw : List ℕ) (k : Keyword) → ((l : Line) → IsTrue (is_st
     → (l : Line) → IsTrue (is_stated l) → keyword_of l ≡ k → raw ≢ text_of l
 unspelled raw k none l h f e = none l h f (ap words e ∙ words_of_text l h ∙ ap (λ m. keyword_text m ∷ operands l) f)
 
+-- the first operand of a format line
+pub format_name : (name : Name) (levels : ℕ) → get_or (format_operands name levels) 0 [] ≡ name_text name
+format_name AmdV1 levels = refl
+format_name VtdSs3 levels = refl
+format_name VtdSs4 levels = refl
+format_name VtdSs5 levels = refl
+format_name X86L4 levels = refl
+format_name X86L5 levels = refl
+format_name Vmsa4 levels = refl
+format_name Vmsa16 levels = refl
+format_name Vmsa64 levels = refl
+format_name Sv39 levels = refl
+format_name Sv48 levels = refl
+format_name Sv57 levels = refl
+
 -- no format has this name
 pub no_format : (rest w : List ℕ) → word 0 rest ≡ w → ((name : Name) → w ≢ name_text name) → (l : Line) → keyword_of l ≡ Format → words rest ≢ operands l
-no_format rest w first none (form.Format name levels) k e = cases name e
-  where
-    cases : (name : Name) → words rest ≢ format_operands name levels
-    cases AmdV1 e = none AmdV1 (sym first ∙ ap (λ ws. get_or ws 0 []) e)
-    cases VtdSs3 e = none VtdSs3 (sym first ∙ ap (λ ws. get_or ws 0 []) e)
-    cases VtdSs4 e = none VtdSs4 (sym first ∙ ap (λ ws. get_or ws 0 []) e)
-    cases VtdSs5 e = none VtdSs5 (sym first ∙ ap (λ ws. get_or ws 0 []) e)
-    cases X86L4 e = none X86L4 (sym first ∙ ap (λ ws. get_or ws 0 []) e)
-    cases X86L5 e = none X86L5 (sym first ∙ ap (λ ws. get_or ws 0 []) e)
-    cases Vmsa4 e = none Vmsa4 (sym first ∙ ap (λ ws. get_or ws 0 []) e)
-    cases Vmsa16 e = none Vmsa16 (sym first ∙ ap (λ ws. get_or ws 0 []) e)
-    cases Vmsa64 e = none Vmsa64 (sym first ∙ ap (λ ws. get_or ws 0 []) e)
-    cases Sv39 e = none Sv39 (sym first ∙ ap (λ ws. get_or ws 0 []) e)
-    cases Sv48 e = none Sv48 (sym first ∙ ap (λ ws. get_or ws 0 []) e)
-    cases Sv57 e = none Sv57 (sym first ∙ ap (λ ws. get_or ws 0 []) e)
+no_format rest w first none (form.Format name levels) k e =
+    none name (sym first ∙ ap (λ ws. get_or ws 0 []) e ∙ format_name name levels)
 no_format rest w first none l k e = let f : keyword_of l ≡ Format = k in cc
 
 pub some_spelled : (raw : List ℕ) (k : Keyword) (o : Option Line) → IfSome o (λ l. words raw ≡ keyword_text k ∷ operands l) → IfSome o (λ l. keyword_of l ≡ k) → IfSome o (λ l. raw ≡ text_of l)

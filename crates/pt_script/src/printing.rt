@@ -1,5 +1,6 @@
 // The text of a script.
 ghost use Rattle.std.specs.Prelude.{◌≡◌, ◌++◌, ◌∷◌, [], IfOk, OnOk, OnErr};
+ghost use Rattle.pt_model.specs.Numbers.{decimal, hexadecimal};
 ghost use Rattle.pt_model.specs.Text.{prot_text};
 ghost use Rattle.pt_script.specs.Lines.{text_of, name_text, command_line, ask_line};
 ghost use Rattle.pt_script.specs.Text.{script_text};
@@ -51,21 +52,32 @@ fn push_format(out: &mut Vec<u8>, name: Name, levels: u64) -> Result<(), Memory>
     out.extend_from_slice(b"format ")?;
     out.extend_from_slice(name_text(name))?;
     if name == Name::AmdV1 {
-        out.extend_from_slice(b" levels ")?;
-        push_dec(out, levels)?;
+        push_dec_behind(out, b" levels ", levels)?;
     }
     Ok(())
+}
+
+// A text and a number behind it.
+fn push_dec_behind(out: &mut Vec<u8>, text: &[u8], value: u64) -> Result<(), Memory>
+    ensures { OnOk result (out.new.items ≡ out.old.items ++ (text.now ++ decimal value)) }
+{
+    out.extend_from_slice(text)?;
+    push_dec(out, value)
+}
+
+fn push_hex_behind(out: &mut Vec<u8>, text: &[u8], value: u64) -> Result<(), Memory>
+    ensures { OnOk result (out.new.items ≡ out.old.items ++ (text.now ++ hexadecimal value)) }
+{
+    out.extend_from_slice(text)?;
+    push_hex(out, value)
 }
 
 fn push_map(out: &mut Vec<u8>, va: u64, pa: u64, len: u64, prot: Prot) -> Result<(), Memory>
     ensures { OnOk result (out.new.items ≡ out.old.items ++ text_of (Line.Map va pa len prot)) }
 {
-    out.extend_from_slice(b"map ")?;
-    push_hex(out, va)?;
-    out.extend_from_slice(b" ")?;
-    push_hex(out, pa)?;
-    out.extend_from_slice(b" ")?;
-    push_hex(out, len)?;
+    push_hex_behind(out, b"map ", va)?;
+    push_hex_behind(out, b" ", pa)?;
+    push_hex_behind(out, b" ", len)?;
     out.extend_from_slice(b" ")?;
     push_prot(out, prot)?;
     Ok(())
@@ -74,10 +86,8 @@ fn push_map(out: &mut Vec<u8>, va: u64, pa: u64, len: u64, prot: Prot) -> Result
 fn push_unmap(out: &mut Vec<u8>, va: u64, len: u64) -> Result<(), Memory>
     ensures { OnOk result (out.new.items ≡ out.old.items ++ text_of (Line.Unmap va len)) }
 {
-    out.extend_from_slice(b"unmap ")?;
-    push_hex(out, va)?;
-    out.extend_from_slice(b" ")?;
-    push_hex(out, len)
+    push_hex_behind(out, b"unmap ", va)?;
+    push_hex_behind(out, b" ", len)
 }
 
 fn push_words(out: &mut Vec<u8>, line: Line) -> Result<(), Memory>
@@ -85,33 +95,18 @@ fn push_words(out: &mut Vec<u8>, line: Line) -> Result<(), Memory>
 {
     match line {
         Line::Format { name, levels } => push_format(out, name, levels)?,
-        Line::Frames { frames } => {
-            out.extend_from_slice(b"frames ")?;
-            push_dec(out, frames)?;
-        }
-        Line::Hold { hold } => {
-            out.extend_from_slice(b"hold ")?;
-            push_dec(out, hold)?;
-        }
+        Line::Frames { frames } => push_dec_behind(out, b"frames ", frames)?,
+        Line::Hold { hold } => push_dec_behind(out, b"hold ", hold)?,
         Line::Map { va, pa, len, prot } => push_map(out, va, pa, len, prot)?,
         Line::Unmap { va, len } => push_unmap(out, va, len)?,
-        Line::Lookup { va } => {
-            out.extend_from_slice(b"lookup ")?;
-            push_hex(out, va)?;
-        }
+        Line::Lookup { va } => push_hex_behind(out, b"lookup ", va)?,
         Line::Dump => out.extend_from_slice(b"dump")?,
         Line::Release => out.extend_from_slice(b"release")?,
-        Line::Fork { at } => {
-            out.extend_from_slice(b"fork ")?;
-            push_hex(out, at)?;
-        }
+        Line::Fork { at } => push_hex_behind(out, b"fork ", at)?,
         Line::With => out.extend_from_slice(b"with")?,
         Line::End => out.extend_from_slice(b"end")?,
         Line::Close => out.extend_from_slice(b"close")?,
-        Line::Walk { va } => {
-            out.extend_from_slice(b"walk ")?;
-            push_hex(out, va)?;
-        }
+        Line::Walk { va } => push_hex_behind(out, b"walk ", va)?,
         Line::Census => out.extend_from_slice(b"census")?,
     }
     Ok(())

@@ -10,41 +10,37 @@ const TEXT: &[u8] = b"one map\ntwo maps";
 
 #[test]
 fn numbers_have_one_spelling(rt: HostRuntime) -> Result<(), Fail> {
-    let decimal = [
-        ("0", Some(0)),
-        ("4096", Some(4096)),
-        ("18446744073709551615", Some(u64::MAX)),
-        ("18446744073709551616", None),
-        ("00", None),
-        ("+1", None),
-        ("0x1", None),
-        ("", None),
+    // a text, and the number that it is in decimal and in hexadecimal
+    let cases = [
+        ("0", Some(0), None),
+        ("4096", Some(4096), None),
+        ("18446744073709551615", Some(u64::MAX), None),
+        ("18446744073709551616", None, None),
+        ("00", None, None),
+        ("+1", None, None),
+        ("1", Some(1), None),
+        ("0x0", None, Some(0)),
+        ("0x1", None, Some(1)),
+        ("0x1f000", None, Some(0x1f000)),
+        ("0xffffffffffffffff", None, Some(u64::MAX)),
+        ("0x10000000000000000", None, None),
+        ("0x00", None, None),
+        ("0xA", None, None),
+        ("0X1", None, None),
+        ("0x", None, None),
+        ("", None, None),
     ];
-    for (text, value) in decimal {
-        assert_eq!(rt; read_dec(text.as_bytes()), value, "{text:?}");
-        if let Some(value) = value {
-            let mut out = vec![in rt.alloc(); b'=']?;
+    for (text, decimal, hexadecimal) in cases {
+        let mut out = vec![in rt.alloc(); b'=']?;
+        assert_eq!(rt; read_dec(text.as_bytes()), decimal, "{text:?}");
+        if let Some(value) = decimal {
             push_dec(&mut out, value)?;
-            assert_eq!(rt; &out[1..], text.as_bytes());
         }
-    }
-    let hexadecimal = [
-        ("0x0", Some(0)),
-        ("0x1f000", Some(0x1f000)),
-        ("0xffffffffffffffff", Some(u64::MAX)),
-        ("0x10000000000000000", None),
-        ("0x00", None),
-        ("0xA", None),
-        ("0X1", None),
-        ("0x", None),
-        ("1", None),
-        ("", None),
-    ];
-    for (text, value) in hexadecimal {
-        assert_eq!(rt; read_hex(text.as_bytes()), value, "{text:?}");
-        if let Some(value) = value {
-            let mut out = vec![in rt.alloc(); b'=']?;
+        assert_eq!(rt; read_hex(text.as_bytes()), hexadecimal, "{text:?}");
+        if let Some(value) = hexadecimal {
             push_hex(&mut out, value)?;
+        }
+        if decimal.is_some() || hexadecimal.is_some() {
             assert_eq!(rt; &out[1..], text.as_bytes());
         }
     }

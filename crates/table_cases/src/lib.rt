@@ -6,6 +6,8 @@
 #[cfg(test)]
 mod books;
 #[cfg(test)]
+mod leaves;
+#[cfg(test)]
 mod owned;
 #[cfg(test)]
 mod riscv;

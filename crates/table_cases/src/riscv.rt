@@ -1,5 +1,6 @@
 //! The words of RISC-V tables, and their walk.
 
+use crate::leaves::is_word;
 use fmt_riscv::RiscV;
 use pt_format::{Format, Prot, Read};
 use pt_manual::{Walked, walk_riscv};
@@ -12,46 +13,11 @@ const ONE_FRAME: usize = 514;
 
 #[test]
 fn pages_of_each_size(rt: HostRuntime) {
-    let words = [
-        (
-            0,
-            0,
-            Prot::Read,
-            RiscV::<3>::leaf_word(0, 0, 0x4_0001, Prot::Read, 0),
-            0x1000_04d3,
-        ),
-        (
-            0,
-            0,
-            Prot::ReadWrite,
-            RiscV::<3>::leaf_word(0, 0, 0x4_0001, Prot::ReadWrite, 0),
-            0x1000_04d7,
-        ),
-        (
-            1,
-            9,
-            Prot::ReadWrite,
-            RiscV::<3>::leaf_word(1, 9, 0x4_0000, Prot::ReadWrite, 0),
-            0x1000_00d7,
-        ),
-        (
-            2,
-            18,
-            Prot::Read,
-            RiscV::<3>::leaf_word(2, 18, 0x4_0000, Prot::Read, 0),
-            0x1000_00d3,
-        ),
-    ];
-    for (level, log2, prot, word, expected) in words {
-        assert!(rt; level < 3);
-        assert_eq!(rt; word, expected);
-        assert_eq!(rt;
-            RiscV::<3>::read_word(level, word),
-            Read::Leaf { log2, prot }
-        );
-        assert_eq!(rt; RiscV::<3>::read_word(level, word | 8), Read::Alien);
-    }
     assert_eq!(rt; RiscV::<3>::read_word(2, 0), Read::Empty);
+    assert!(rt; is_word::<RiscV<3>>((0, 0, 0x4_0001), Prot::Read, 0x1000_04d3, 8));
+    assert!(rt; is_word::<RiscV<3>>((0, 0, 0x4_0001), Prot::ReadWrite, 0x1000_04d7, 8));
+    assert!(rt; is_word::<RiscV<3>>((1, 9, 0x4_0000), Prot::ReadWrite, 0x1000_00d7, 8));
+    assert!(rt; is_word::<RiscV<3>>((2, 18, 0x4_0000), Prot::Read, 0x1000_00d3, 8));
 }
 
 #[test]

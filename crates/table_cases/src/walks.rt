@@ -1,5 +1,10 @@
 //! Words and walks.
 
+ghost use Rattle.std.specs.Prelude.{◌+◌, ◌<◌, length};
+ghost use Rattle.pt_model.specs.declared.block.Prot.{Prot};
+ghost use Rattle.pt_format.specs.Words.{MayBeLeaf};
+
+use crate::leaves::is_word;
 use fmt_vtdss::VtdSs;
 use fmt_x86::X86;
 use pt_format::{Format, Prot, Read};
@@ -123,155 +128,27 @@ fn the_words_of_blocks(rt: HostRuntime) {
 }
 
 #[test]
-fn vtd_pages_are_read_back(rt: HostRuntime) {
-    let words = [
-        (
-            0,
-            0,
-            Prot::Read,
-            VtdSs::<5>::leaf_word(0, 0, 0x1_2345, Prot::Read, 0),
-            0x1234_5001,
-        ),
-        (
-            0,
-            0,
-            Prot::ReadWrite,
-            VtdSs::<5>::leaf_word(0, 0, 0x1_2345, Prot::ReadWrite, 0),
-            0x1234_5003,
-        ),
-    ];
-    for (level, log2, prot, word, expected) in words {
-        assert!(rt; level < 3);
-        assert_eq!(rt; word, expected);
-        assert_eq!(rt;
-            VtdSs::<5>::read_word(level, word),
-            Read::Leaf { log2, prot }
-        );
-        assert_eq!(rt; VtdSs::<5>::read_word(level, word | 4), Read::Alien);
-    }
-    assert_eq!(rt;
-        VtdSs::<5>::read_word(4, 0x1_0000_3003),
-        Read::Table {
-            address: 0x1_0000_3000
-        }
-    );
+fn words_are_read_back(rt: HostRuntime) {
+    assert!(rt; is_word::<VtdSs<5>>((0, 0, 0x1_2345), Prot::Read, 0x1234_5001, 4));
+    assert!(rt; is_word::<VtdSs<5>>((0, 0, 0x1_2345), Prot::ReadWrite, 0x1234_5003, 4));
+    assert!(rt; is_word::<X86<5>>((0, 0, 0x1_2345), Prot::Read, 0x1234_5065, 8));
+    assert!(rt; is_word::<X86<5>>((0, 0, 0x1_2345), Prot::ReadWrite, 0x1234_5067, 8));
+    let table = Read::Table {
+        address: 0x1_0000_3000,
+    };
+    assert_eq!(rt; VtdSs::<5>::read_word(4, 0x1_0000_3003), table);
     assert_eq!(rt; VtdSs::<5>::read_word(3, 0), Read::Empty);
-}
-
-#[test]
-fn vtd_large_pages_are_read_back(rt: HostRuntime) {
-    let words = [
-        (
-            1,
-            9,
-            Prot::Read,
-            VtdSs::<5>::leaf_word(1, 9, 0x400, Prot::Read, 0),
-            0x40_0081,
-        ),
-        (
-            1,
-            9,
-            Prot::ReadWrite,
-            VtdSs::<5>::leaf_word(1, 9, 0x400, Prot::ReadWrite, 0),
-            0x40_0083,
-        ),
-        (
-            2,
-            18,
-            Prot::Read,
-            VtdSs::<5>::leaf_word(2, 18, 0xc_0000, Prot::Read, 0),
-            0xc000_0081,
-        ),
-        (
-            2,
-            18,
-            Prot::ReadWrite,
-            VtdSs::<5>::leaf_word(2, 18, 0xc_0000, Prot::ReadWrite, 0),
-            0xc000_0083,
-        ),
-    ];
-    for (level, log2, prot, word, expected) in words {
-        assert!(rt; level < 3);
-        assert_eq!(rt; word, expected);
-        assert_eq!(rt;
-            VtdSs::<5>::read_word(level, word),
-            Read::Leaf { log2, prot }
-        );
-        assert_eq!(rt; VtdSs::<5>::read_word(level, word | 4), Read::Alien);
-    }
-}
-
-#[test]
-fn x86_pages_are_read_back(rt: HostRuntime) {
-    let words = [
-        (
-            0,
-            0,
-            Prot::Read,
-            X86::<5>::leaf_word(0, 0, 0x1_2345, Prot::Read, 0),
-            0x1234_5065,
-        ),
-        (
-            0,
-            0,
-            Prot::ReadWrite,
-            X86::<5>::leaf_word(0, 0, 0x1_2345, Prot::ReadWrite, 0),
-            0x1234_5067,
-        ),
-    ];
-    for (level, log2, prot, word, expected) in words {
-        assert!(rt; level < 3);
-        assert_eq!(rt; word, expected);
-        assert_eq!(rt; X86::<5>::read_word(level, word), Read::Leaf { log2, prot });
-        assert_eq!(rt; X86::<5>::read_word(level, word | 8), Read::Alien);
-    }
-    assert_eq!(rt;
-        X86::<5>::read_word(4, 0x1_0000_3027),
-        Read::Table {
-            address: 0x1_0000_3000
-        }
-    );
+    assert_eq!(rt; X86::<5>::read_word(4, 0x1_0000_3027), table);
     assert_eq!(rt; X86::<5>::read_word(3, 0), Read::Empty);
-}
-
-#[test]
-fn x86_large_pages_are_read_back(rt: HostRuntime) {
-    let words = [
-        (
-            1,
-            9,
-            Prot::Read,
-            X86::<5>::leaf_word(1, 9, 0x400, Prot::Read, 0),
-            0x40_00e5,
-        ),
-        (
-            1,
-            9,
-            Prot::ReadWrite,
-            X86::<5>::leaf_word(1, 9, 0x400, Prot::ReadWrite, 0),
-            0x40_00e7,
-        ),
-        (
-            2,
-            18,
-            Prot::Read,
-            X86::<5>::leaf_word(2, 18, 0xc_0000, Prot::Read, 0),
-            0xc000_00e5,
-        ),
-        (
-            2,
-            18,
-            Prot::ReadWrite,
-            X86::<5>::leaf_word(2, 18, 0xc_0000, Prot::ReadWrite, 0),
-            0xc000_00e7,
-        ),
-    ];
-    for (level, log2, prot, word, expected) in words {
-        assert!(rt; level < 3);
-        assert_eq!(rt; word, expected);
-        assert_eq!(rt; X86::<5>::read_word(level, word), Read::Leaf { log2, prot });
-        assert_eq!(rt; X86::<5>::read_word(level, word | 8), Read::Alien);
-    }
+    // with PS
+    assert!(rt; is_word::<VtdSs<5>>((1, 9, 0x400), Prot::Read, 0x40_0081, 4));
+    assert!(rt; is_word::<VtdSs<5>>((1, 9, 0x400), Prot::ReadWrite, 0x40_0083, 4));
+    assert!(rt; is_word::<VtdSs<5>>((2, 18, 0xc_0000), Prot::Read, 0xc000_0081, 4));
+    assert!(rt; is_word::<VtdSs<5>>((2, 18, 0xc_0000), Prot::ReadWrite, 0xc000_0083, 4));
+    assert!(rt; is_word::<X86<5>>((1, 9, 0x400), Prot::Read, 0x40_00e5, 8));
+    assert!(rt; is_word::<X86<5>>((1, 9, 0x400), Prot::ReadWrite, 0x40_00e7, 8));
+    assert!(rt; is_word::<X86<5>>((2, 18, 0xc_0000), Prot::Read, 0xc000_00e5, 8));
+    assert!(rt; is_word::<X86<5>>((2, 18, 0xc_0000), Prot::ReadWrite, 0xc000_00e7, 8));
 }
 
 // Where the entries of frame `f` begin, in a space of four frames.
@@ -285,27 +162,37 @@ const FRAME_2: usize = 5 + 1024;
 
 const FRAME_3: usize = 5 + 1536;
 
+/// Stores two blocks of one size, side by side: one that may be read, and one that may be written too.
+fn put_blocks<F: Format>(words: &mut [u64], place: usize, leaf: (u32, u32, u64))
+    requires read { MayBeLeaf F.layout leaf.0 leaf.1 leaf.2 Prot.Read 0 }
+    requires both { MayBeLeaf F.layout leaf.0 leaf.1 leaf.2 Prot.ReadWrite 0 }
+    requires room { place + 1 < length words.old }
+{
+    let (level, log2, out) = leaf;
+    words[place] = F::leaf_word(level, log2, out, Prot::Read, 0);
+    words[place + 1] = F::leaf_word(level, log2, out, Prot::ReadWrite, 0);
+}
+
+// An address in each of these blocks, where it leads, and what is permitted there.
+const PAGES: [(u64, u64, Prot); 6] = [
+    (0x7fff_fabc, 0xffff_fabc, Prot::Read),
+    (0x8000_0abc, 0xc000_0abc, Prot::ReadWrite),
+    (0x3f_fabc, 0x7f_fabc, Prot::Read),
+    (0x40_0abc, 0x60_0abc, Prot::ReadWrite),
+    (0x1abc, 0xffff_ffff_fabc, Prot::Read),
+    (0x2abc, 0xffff_ffff_fabc, Prot::ReadWrite),
+];
+
 #[test]
 fn vtd_words_walk_to_their_pages(rt: HostRuntime) -> Result<(), Fail> {
     let mut words = vec![in rt.alloc(); 0; FOUR_FRAMES]?;
     words[0] = 2;
     words[FRAME_0] = 0x1_0000_1003;
     words[FRAME_1] = 0x1_0000_2003;
-    words[FRAME_0 + 1] = VtdSs::<3>::leaf_word(2, 18, 0xc_0000, Prot::Read, 0);
-    words[FRAME_0 + 2] = VtdSs::<3>::leaf_word(2, 18, 0xc_0000, Prot::ReadWrite, 0);
-    words[FRAME_1 + 1] = VtdSs::<3>::leaf_word(1, 9, 0x600, Prot::Read, 0);
-    words[FRAME_1 + 2] = VtdSs::<3>::leaf_word(1, 9, 0x600, Prot::ReadWrite, 0);
-    words[FRAME_2 + 1] = VtdSs::<3>::leaf_word(0, 0, 0xf_ffff_ffff, Prot::Read, 0);
-    words[FRAME_2 + 2] = VtdSs::<3>::leaf_word(0, 0, 0xf_ffff_ffff, Prot::ReadWrite, 0);
-    let pages = [
-        (0x7fff_fabc, 0xffff_fabc, Prot::Read),
-        (0x8000_0abc, 0xc000_0abc, Prot::ReadWrite),
-        (0x3f_fabc, 0x7f_fabc, Prot::Read),
-        (0x40_0abc, 0x60_0abc, Prot::ReadWrite),
-        (0x1abc, 0xffff_ffff_fabc, Prot::Read),
-        (0x2abc, 0xffff_ffff_fabc, Prot::ReadWrite),
-    ];
-    for (address, out, prot) in pages {
+    put_blocks::<VtdSs<3>>(&mut words, FRAME_0 + 1, (2, 18, 0xc_0000));
+    put_blocks::<VtdSs<3>>(&mut words, FRAME_1 + 1, (1, 9, 0x600));
+    put_blocks::<VtdSs<3>>(&mut words, FRAME_2 + 1, (0, 0, 0xf_ffff_ffff));
+    for (address, out, prot) in PAGES {
         assert_eq!(rt; walk_vtdss(&words, 3, address), Walked::Page { out, prot });
     }
     assert_eq!(rt; walk_vtdss(&words, 3, 0x3abc), Walked::None);
@@ -316,27 +203,16 @@ fn vtd_words_walk_to_their_pages(rt: HostRuntime) -> Result<(), Fail> {
 fn x86_words_walk_to_their_pages(rt: HostRuntime) -> Result<(), Fail> {
     let mut words = vec![in rt.alloc(); 0; FOUR_FRAMES]?;
     words[0] = 3;
+    // past the lower half of canonical addresses
+    assert_eq!(rt; walk_x86(&words, 4, 0x8000_0000_0000), Walked::None);
     words[FRAME_0] = 0x1_0000_1027;
     words[FRAME_1] = 0x1_0000_2027;
     words[FRAME_2] = 0x1_0000_3027;
-    words[FRAME_1 + 1] = X86::<4>::leaf_word(2, 18, 0xc_0000, Prot::Read, 0);
-    words[FRAME_1 + 2] = X86::<4>::leaf_word(2, 18, 0xc_0000, Prot::ReadWrite, 0);
-    words[FRAME_2 + 1] = X86::<4>::leaf_word(1, 9, 0x600, Prot::Read, 0);
-    words[FRAME_2 + 2] = X86::<4>::leaf_word(1, 9, 0x600, Prot::ReadWrite, 0);
-    words[FRAME_3 + 1] = X86::<4>::leaf_word(0, 0, 0xf_ffff_ffff, Prot::Read, 0);
-    words[FRAME_3 + 2] = X86::<4>::leaf_word(0, 0, 0xf_ffff_ffff, Prot::ReadWrite, 0);
-    let pages = [
-        (0x7fff_fabc, 0xffff_fabc, Prot::Read),
-        (0x8000_0abc, 0xc000_0abc, Prot::ReadWrite),
-        (0x3f_fabc, 0x7f_fabc, Prot::Read),
-        (0x40_0abc, 0x60_0abc, Prot::ReadWrite),
-        (0x1abc, 0xffff_ffff_fabc, Prot::Read),
-        (0x2abc, 0xffff_ffff_fabc, Prot::ReadWrite),
-    ];
-    for (address, out, prot) in pages {
+    put_blocks::<X86<4>>(&mut words, FRAME_1 + 1, (2, 18, 0xc_0000));
+    put_blocks::<X86<4>>(&mut words, FRAME_2 + 1, (1, 9, 0x600));
+    put_blocks::<X86<4>>(&mut words, FRAME_3 + 1, (0, 0, 0xf_ffff_ffff));
+    for (address, out, prot) in PAGES {
         assert_eq!(rt; walk_x86(&words, 4, address), Walked::Page { out, prot });
     }
-    // past the lower half of canonical addresses
-    assert_eq!(rt; walk_x86(&words, 4, 0x8000_0000_0000), Walked::None);
     Ok(())
 }

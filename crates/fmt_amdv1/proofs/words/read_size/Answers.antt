@@ -26,7 +26,7 @@ pages_are c = one_shl c.log2_in-log2.result 64 (omega (arith, few c))
 pub leaf_word-requires-clause-within : goal.leaf_word-requires-clause-within
 leaf_word-requires-clause-within c =
     let a = (goal.at.leaf_word-requires-clause-within c).After-permission_in in
-    rw (pages_are a) (block_room c.log2_in-log2.result c.number_in-number.result (omega (arith, few a)) c.number_in-number.ensures.within)
+    rw (pages_are a) (block_room c.log2_in-log2.result c.page_in-number.result (omega (arith, few a)) c.page_in-number.ensures.within)
 
 pub returns-then-word-leaf_word : goal.returns-then-word-leaf_word
 returns-then-word-leaf_word c =
@@ -34,14 +34,14 @@ returns-then-word-leaf_word c =
     let pages = pages_are a in
     let low = c.if-level-gt2.false in let at = c.if-log2-level.false in
     let word : c.args.word ≡ leaf c.args.level c.log2_in-log2.result
-    (c.number_in-number.result - c.number_in-number.result % (1 * 2 ^ c.log2_in-log2.result % 2 ^ 64)) c.permission_in.result =
+    (c.page_in-number.result - c.page_in-number.result % (1 * 2 ^ c.log2_in-log2.result % 2 ^ 64)) c.permission_in.result =
     c.if-word-leaf_word.true ∙ c.leaf_word.ensures in (
-      c.number_in-number.result - c.number_in-number.result % 2 ^ c.log2_in-log2.result,
+      c.page_in-number.result - c.page_in-number.result % 2 ^ c.log2_in-log2.result,
       c.permission_in.result,
       record {
         a_size = record { low_level = omega arith; from = omega arith; to = omega arith };
-        aligned = block_whole c.log2_in-log2.result c.number_in-number.result;
-        within = block_room c.log2_in-log2.result c.number_in-number.result (omega (arith, few a)) c.number_in-number.ensures.within;
+        aligned = block_whole c.log2_in-log2.result c.page_in-number.result;
+        within = block_room c.log2_in-log2.result c.page_in-number.result (omega (arith, few a)) c.page_in-number.ensures.within;
         stated = c.permission_in.ensures.stated;
         word_is = rw pages at word;
       },
@@ -53,8 +53,8 @@ returns-else-word-leaf_word c = λ log2 out prot x.
     let is : c.log2_in-log2.result ≡ log2 = c.log2_in-log2.ensures ∙ leaf_log2 x in
     let first : number_in c.args.word - number_in c.args.word % 2 ^ c.log2_in-log2.result ≡ out =
     subst (λ k. number_in c.args.word - number_in c.args.word % 2 ^ k ≡ out) (sym is) (leaf_first x) in
-    let begins : c.number_in-number.result - c.number_in-number.result % (1 * 2 ^ c.log2_in-log2.result % 2 ^ 64) ≡ out =
-    rw (pages_are a, c.number_in-number.ensures.number) first in
+    let begins : c.page_in-number.result - c.page_in-number.result % (1 * 2 ^ c.log2_in-log2.result % 2 ^ 64) ≡ out =
+    rw (pages_are a, c.page_in-number.ensures.page) first in
     let permission : c.permission_in.result ≡ prot = c.permission_in.ensures.of_leaf c.args.level log2 out prot x in
     let size : leaf c.args.level c.log2_in-log2.result out prot ≡ leaf c.args.level log2 out prot = ap (λ k. leaf c.args.level k out prot) is in
     c.if-word-leaf_word.false

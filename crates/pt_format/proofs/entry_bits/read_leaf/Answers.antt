@@ -6,7 +6,7 @@ use Rattle.pt_format.proofs.entry_bits.read_leaf.Goals.{else-level-lt3-via-then-
 
 pub returns-else-level-lt3 : goal.returns-else-level-lt3
 returns-else-level-lt3 g c = λ out prot is.
-    let o : c.page_in-out.result ≡ out = c.page_in-out.ensures ∙ leaf_out g.met.E.EntryBits.are_bits is in
+    let o : c.page_in-out.result ≡ out = c.page_in-out.ensures.page ∙ leaf_out g.met.E.EntryBits.are_bits is in
     let p : c.permission_in-prot.result ≡ prot = c.permission_in-prot.ensures.of_leaf c.args.level out prot is in
     elim c.else-level-lt3.branch [
       | else-level-lt3-via-then-level-lt3+then-is_aligned+else-word-leaf_word w ↦

@@ -45,22 +45,16 @@ end_is g c =
 
 pub returns-then-first-count : goal.returns-then-first-count
 returns-then-first-count g c =
-    let f = g.F.Format.layout in
-    let at = goal.at.returns-then-first-count g c in
-    let x = first_is g at.After-GRANULE-2 in
-    let y = count_is g at.After-GRANULE-2 in
-    let end = end_is g at.After-GRANULE-3 in
-    let test = c.if-first-count.true in
-    let is = range_is g.met.F.Format.lawful_layout (unsigned g at.After-GRANULE-2) c.args.va c.args.len c.requires.whole_va c.requires.whole_len c.requires.some (omega arith) in
+    let a = (goal.at.returns-then-first-count g c).After-GRANULE-2 in
+    let end = end_is g (goal.at.returns-then-first-count g c).After-GRANULE-3 in
+    let x = first_is g a in let y = count_is g a in let test = c.if-first-count.true in
+    let is = range_is g.met.F.Format.lawful_layout (unsigned g a) c.args.va c.args.len c.requires.whole_va c.requires.whole_len c.requires.some (omega arith) in
     (λ i. Some (span_of (x i, y i))) ∙ sym (ap (λ (o : Option (ℕ × ℕ)). option_map span_of o) is)
 
 pub returns-else-first-count : goal.returns-else-first-count
 returns-else-first-count g c =
-    let f = g.F.Format.layout in
-    let at = goal.at.returns-else-first-count g c in
-    let x = first_is g at.After-GRANULE-2 in
-    let y = count_is g at.After-GRANULE-2 in
-    let end = end_is g at.After-GRANULE-3 in
-    let test = c.if-first-count.false in
-    let is = range_none g.met.F.Format.lawful_layout (unsigned g at.After-GRANULE-2) c.args.va c.args.len c.requires.whole_va c.requires.whole_len c.requires.some (λ fits. omega arith) in
-    sym (ap (λ (o : Option (ℕ × ℕ)). option_map span_of o) is)
+    let a = (goal.at.returns-else-first-count g c).After-GRANULE-2 in
+    let end = end_is g (goal.at.returns-else-first-count g c).After-GRANULE-3 in
+    let x = first_is g a in let y = count_is g a in let test = c.if-first-count.false in
+    sym (ap (λ (o : Option (ℕ × ℕ)). option_map span_of o)
+    (range_none g.met.F.Format.lawful_layout (unsigned g a) c.args.va c.args.len c.requires.whole_va c.requires.whole_len c.requires.some (λ fits. omega arith)))

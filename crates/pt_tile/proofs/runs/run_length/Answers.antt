@@ -7,7 +7,9 @@ use Rattle.pt_model.specs.Tiling.{greatest_size}
 use Rattle.pt_tile.specs.Sizes.{IsLarger}
 use Rattle.pt_tile.proofs.TileFacts.{greatest_at}
 use Rattle.pt_tile.proofs.RunFacts.{IsCut, run_some, fitting_some, fewer_fit, next_up, cut_is}
+use Rattle.pt_tile.proofs.runs.run_length.Given.{Over}
 use Rattle.pt_tile.proofs.runs.run_length.Goals as goal
+use Rattle.pt_tile.proofs.runs.run_length.Goals.{After-min}
 
 -- the first size is below the bits of a number
 small : (g : Layout) (first out left k : ℕ) → IsTrue (is_size g 0) → left ≢ 0 → left < 2 ^ 64 →
@@ -54,29 +56,26 @@ cut g first out left k size down count z some hi ho e l few aligned low next is 
     cut_is g k first out left size (down + 2 ^ size) count (greatest_at g first out left k z some hi ho e) l
     (next_up first size down aligned low) next (by_power k first left size down count few is)
 
-pub returns-in-Some-clause-some : goal.returns-in-Some-clause-some
-returns-in-Some-clause-some g c =
-    (cut g.F.Format.layout c.args.first c.args.out c.args.left c.args.log2 c.in-Some.size c.align_down.result c.min.result
+-- the run is cut where the first larger size may begin
+is_cut : (g : Over) (c : After-min g) → IsCut g.F.Format.layout c.args.log2 c.args.first c.args.out c.args.left (c.align_down.result + 2 ^ c.in-Some.size) c.min.result
+is_cut g c =
+    cut g.F.Format.layout c.args.first c.args.out c.args.left c.args.log2 c.in-Some.size c.align_down.result c.min.result
     g.met.F.Format.lawful_layout.has_pages c.requires.some c.requires.in_input c.requires.in_output c.requires.first
     c.in-Some.ensures.least c.in-Some.ensures.small c.align_down.ensures.multiple c.align_down.ensures.at_most c.align_down.ensures.greatest
-    c.min.ensures).some
+    c.min.ensures
+
+pub returns-in-Some-clause-some : goal.returns-in-Some-clause-some
+returns-in-Some-clause-some g c = (is_cut g (goal.at.returns-in-Some-clause-some g c).After-min).some
 
 pub returns-in-Some-clause-run : goal.returns-in-Some-clause-run
 returns-in-Some-clause-run g c = λ prot.
     let pages = g.met.F.Format.lawful_layout.has_pages in
     let top = greatest_at g.F.Format.layout c.args.first c.args.out c.args.left c.args.log2 pages
     c.requires.some c.requires.in_input c.requires.in_output c.requires.first in
-    let is = cut g.F.Format.layout c.args.first c.args.out c.args.left c.args.log2 c.in-Some.size c.align_down.result c.min.result
-    pages c.requires.some c.requires.in_input c.requires.in_output c.requires.first
-    c.in-Some.ensures.least c.in-Some.ensures.small c.align_down.ensures.multiple c.align_down.ensures.at_most c.align_down.ensures.greatest
-    c.min.ensures in
+    let is = is_cut g (goal.at.returns-in-Some-clause-run g c).After-min in
     run_some g.F.Format.layout prot pages c.args.log2 (c.align_down.result + 2 ^ c.in-Some.size) (Some c.in-Some.size) c.min.result
     c.args.first c.args.out c.args.left c.requires.in_input c.requires.in_output top c.in-Some.ensures.least
     (next_up c.args.first c.in-Some.size c.align_down.result c.align_down.ensures.multiple c.align_down.ensures.at_most) is.some is.fits is.before
 
 pub returns-in-Some-clause-ends : goal.returns-in-Some-clause-ends
-returns-in-Some-clause-ends g c =
-    (cut g.F.Format.layout c.args.first c.args.out c.args.left c.args.log2 c.in-Some.size c.align_down.result c.min.result
-    g.met.F.Format.lawful_layout.has_pages c.requires.some c.requires.in_input c.requires.in_output c.requires.first
-    c.in-Some.ensures.least c.in-Some.ensures.small c.align_down.ensures.multiple c.align_down.ensures.at_most c.align_down.ensures.greatest
-    c.min.ensures).ends
+returns-in-Some-clause-ends g c = (is_cut g (goal.at.returns-in-Some-clause-ends g c).After-min).ends

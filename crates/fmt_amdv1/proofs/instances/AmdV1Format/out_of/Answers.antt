@@ -21,10 +21,10 @@ nonzero_rem-result-2 c = rw (pages_are (goal.at.nonzero_rem-result-2 c).After-lo
 
 pub returns-clause-page : goal.returns-clause-page
 returns-clause-page c =
-    rw (pages_are (goal.at.returns-clause-page c).After-log2_in, c.number_in-number.ensures.number)
+    rw (pages_are (goal.at.returns-clause-page c).After-log2_in, c.page_in-number.ensures.page)
     (output_is c.args.level c.args.word c.args.page c.log2_in.result c.log2_in.ensures)
 
 pub returns-clause-within : goal.returns-clause-within
 returns-clause-within c =
     rw (pages_are (goal.at.returns-clause-within c).After-log2_in)
-    (within c.log2_in.result c.number_in-number.result c.args.page (omega (arith, few (goal.at.returns-clause-within c).After-log2_in)) c.number_in-number.ensures.within)
+    (within c.log2_in.result c.page_in-number.result c.args.page (omega (arith, few (goal.at.returns-clause-within c).After-log2_in)) c.page_in-number.ensures.within)

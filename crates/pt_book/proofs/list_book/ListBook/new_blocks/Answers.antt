@@ -1,13 +1,12 @@
-use Rattle.std.proofs.Common.{◌≡◌, ◌+◌, ◌/◌, ◌^◌, ◌≤◌, ap, sym, subst, ◌∙◌, arith, Vec, Global}
+use Rattle.std.proofs.Common.{◌≡◌, ◌+◌, ◌/◌, ◌^◌, ◌≤◌, ap, sym, subst, ◌∙◌, arith}
 use Rattle.std.specs.Prelude.{All, AllPairs}
-use Rattle.std.proofs.lemmas.Result.{IfOk-weaker}
 use Rattle.pt_model.specs.declared.block.Block.{Block}
 use Rattle.pt_model.specs.Layout.{IsLegalBlock, input_pages, output_pages}
 use Rattle.pt_model.specs.Pages.{page_under}
 use Rattle.pt_model.specs.Tiling.{tiling, IsTiling}
 use Rattle.pt_model.proofs.TilingFacts.{tiling_is}
 use Rattle.pt_book.specs.Spaces.{Space}
-use Rattle.pt_book.proofs.ListFacts.{tiling_legal, tiling_ordered}
+use Rattle.pt_book.proofs.ListFacts.{answered, tiling_legal, tiling_ordered}
 use Rattle.pt_book.proofs.Refusing.{allowed_input, allowed_output}
 use Rattle.pt_book.proofs.list_book.ListBook.new_blocks.Given.{Over}
 use Rattle.pt_book.proofs.list_book.ListBook.new_blocks.Goals as goal
@@ -53,23 +52,11 @@ a_tiling g c =
 
 pub returns-clause-legal : goal.returns-clause-legal
 returns-clause-legal g c =
-    let f = g.F.Format.layout in
-    let first = c.page_under.result in
-    let out = c.args.pa / 2 ^ c.GRANULE-2.result in
-    let count = c.args.len / 2 ^ c.GRANULE.result in
-    let all = tiling_legal f c.args.prot first out count _ (a_tiling g (goal.at.returns-clause-legal g c).After-GRANULE-2) in
-    IfOk-weaker c.tiled.result (λ (bs : Vec Block Global). bs.items ≡ tiling f c.args.prot first out count) (λ (bs : Vec Block Global). All (IsLegalBlock f) bs.items)
-    (λ bs e. subst (All (IsLegalBlock f)) (sym e) all)
-    c.tiled.ensures
+    let a = (goal.at.returns-clause-legal g c).After-GRANULE-2 in
+    answered c.tiled.result _ (All (IsLegalBlock g.F.Format.layout)) (tiling_legal g.F.Format.layout c.args.prot _ _ _ _ (a_tiling g a)) c.tiled.ensures
 
 pub returns-clause-in_order : goal.returns-clause-in_order
 returns-clause-in_order g c =
-    let f = g.F.Format.layout in
-    let first = c.page_under.result in
-    let out = c.args.pa / 2 ^ c.GRANULE-2.result in
-    let count = c.args.len / 2 ^ c.GRANULE.result in
-    let ordered = AllPairs (λ (b c : Block). b.first ≤ c.first) in
-    let all = tiling_ordered f c.args.prot first out count _ (a_tiling g (goal.at.returns-clause-in_order g c).After-GRANULE-2) in
-    IfOk-weaker c.tiled.result (λ (bs : Vec Block Global). bs.items ≡ tiling f c.args.prot first out count) (λ (bs : Vec Block Global). ordered bs.items)
-    (λ bs e. subst ordered (sym e) all)
+    let a = (goal.at.returns-clause-in_order g c).After-GRANULE-2 in
+    answered c.tiled.result _ (AllPairs (λ (b c : Block). b.first ≤ c.first)) (tiling_ordered g.F.Format.layout c.args.prot _ _ _ _ (a_tiling g a))
     c.tiled.ensures

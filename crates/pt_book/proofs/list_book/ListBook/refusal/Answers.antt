@@ -7,18 +7,15 @@ use Rattle.pt_model.specs.Pages.{byte_at}
 use Rattle.pt_model.specs.declared.reply.MapAnswer.TheVariants as mapping
 use Rattle.pt_model.specs.Book.{MapRefusal, map_refusal, meets}
 use Rattle.pt_model.specs.Run.{refused_answer}
-use Rattle.pt_format.proofs.PageFacts.{under_small, under_within, count_small}
+use Rattle.pt_format.proofs.PageFacts.{under_within}
 use Rattle.pt_book.specs.Spaces.{Space}
 use Rattle.pt_book.proofs.ListFacts.{found_is}
-use Rattle.pt_book.proofs.Refusing.{plain_book, span_is, refusal_is, outside_is, output_is, free_is, occupied_is}
+use Rattle.pt_book.proofs.Refusing.{end_small, plain_book, span_is, refusal_is, outside_is, output_is, free_is, occupied_is}
 use Rattle.pt_book.proofs.list_book.ListBook.refusal.Goals as goal
 
 pub overflow_add-last : goal.overflow_add-last
 overflow_add-last g c =
-    let f = g.F.Format.layout in
-    let l = g.met.F.Format.lawful_layout in
-    let span = span_is f c.args.va c.args.len c.in-Some.span c.in-Some.ensures in
-    omega (arith, span.1, span.2, under_small f c.args.va l, count_small f c.args.len l (omega arith))
+    omega (arith, end_small g.met.F.Format.lawful_layout c.args.va c.args.len c.in-Some.span (omega arith) c.in-Some.ensures)
 
 pub returns-then-not-is_inside : goal.returns-then-not-is_inside
 returns-then-not-is_inside g c =

@@ -4,19 +4,15 @@ use Rattle.pt_model.specs.declared.block.Block.{Block}
 use Rattle.pt_model.specs.Layout.{IsLegalBlock}
 use Rattle.pt_model.specs.Unmap.{CutRefusal, is_cut, lowest_cut, unmap_refusal}
 use Rattle.pt_model.specs.Run.{refused_unmap}
-use Rattle.pt_format.proofs.PageFacts.{under_small, count_small}
 use Rattle.pt_book.specs.Spaces.{Space}
 use Rattle.pt_book.proofs.ListFacts.{found_is}
-use Rattle.pt_book.proofs.Refusing.{plain_book, span_is}
+use Rattle.pt_book.proofs.Refusing.{end_small, plain_book}
 use Rattle.pt_book.proofs.UnmapRefusing.{answer_is}
 use Rattle.pt_book.proofs.list_book.ListBook.unmap_refusal.Goals as goal
 
 pub overflow_add-last : goal.overflow_add-last
 overflow_add-last g c =
-    let f = g.F.Format.layout in
-    let l = g.met.F.Format.lawful_layout in
-    let span = span_is f c.args.va c.args.len c.in-Some.span c.in-Some.ensures in
-    omega (arith, span.1, span.2, under_small f c.args.va l, count_small f c.args.len l (omega arith))
+    omega (arith, end_small g.met.F.Format.lawful_layout c.args.va c.args.len c.in-Some.span (omega arith) c.in-Some.ensures)
 
 pub returns-then-not-is_inside-clause-answer : goal.returns-then-not-is_inside-clause-answer
 returns-then-not-is_inside-clause-answer g c =
