@@ -36,8 +36,10 @@ def line(form):
         pages, lookup("pages", 16384), step("blocks", 4096), lookup("blocks", 4096), step("sixteen", 4096),
         step("driver", 1023), lookup("driver", 1023), 2 * step("unmap", 32768) - pages, step("mix", 1024),
     ]
-    run = step("gigabytes", 1) / pages_of_gigabyte
-    return " | ".join([f"| `{form}`", *(f"{figure:,.0f}" for figure in figures), f"{run:.1f} |"])
+    run = step("gigabytes", 1)
+    undone = 2 * step("unmap-gigabytes", 2) - run
+    runs = [run / pages_of_gigabyte, undone / pages_of_gigabyte]
+    return " | ".join([f"| `{form}`", *(f"{figure:,.0f}" for figure in figures), *(f"{figure:.1f}" for figure in runs)]) + " |"
 
 
 for name in sys.argv[1:]:

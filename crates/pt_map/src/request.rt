@@ -80,7 +80,7 @@ pub(crate) fn gather<F: Format, H: Holder<F>>(holder: &mut H, absent: u64) -> Re
 
 /// Maps an extent of any blocks from the path's last table, of this level, or refuses it.
 #[inline(never)]
-fn map_parts<F: Format, H: Holder<F>>(
+fn map_below<F: Format, H: Holder<F>>(
     holder: &mut H,
     level: u32,
     extent: Extent,
@@ -105,7 +105,7 @@ fn map_parts<F: Format, H: Holder<F>>(
 }
 
 /// The same, for an extent that is a run of so many equal blocks of that table: it needs no further table.
-#[inline(never)]
+#[inline(always)]
 fn map_run<F: Format, H: Holder<F>>(
     holder: &mut H,
     level: u32,
@@ -132,9 +132,9 @@ fn map_run<F: Format, H: Holder<F>>(
     Ok(())
 }
 
-/// The same, for an extent of any blocks, of which the first has `2^log2` pages.
+/// The same, for an extent whose first block is one of that table, of `2^log2` pages.
 #[inline(always)]
-fn map_below<F: Format, H: Holder<F>>(
+fn map_level<F: Format, H: Holder<F>>(
     holder: &mut H,
     level: u32,
     extent: Extent,
@@ -152,11 +152,12 @@ fn map_below<F: Format, H: Holder<F>>(
     if extent.end - extent.first == count << log2 {
         map_run::<F, H>(holder, level, extent, log2, count)
     } else {
-        map_parts::<F, H>(holder, level, extent)
+        map_below::<F, H>(holder, level, extent)
     }
 }
 
 /// The same, for an extent that is one block of several entries of that table.
+#[inline(never)]
 fn map_entries<F: Format, H: Holder<F>>(
     holder: &mut H,
     level: u32,
@@ -238,11 +239,11 @@ fn map_at<F: Format, H: Holder<F>>(
         (H.view holder.old) (H.view holder.new) extent level result }
 {
     if log2 < F::INDEX * level {
-        map_parts::<F, H>(holder, level, extent)
+        map_below::<F, H>(holder, level, extent)
     } else if extent.end - extent.first == 1 << log2 {
         map_block::<F, H>(holder, level, extent, log2)
     } else {
-        map_below::<F, H>(holder, level, extent, log2)
+        map_level::<F, H>(holder, level, extent, log2)
     }
 }
 
@@ -315,5 +316,9 @@ pub fn map<F: Format, H: Holder<F>>(
         return map_extent::<F, H>(holder, extent, F::INDEX, true);
     }
     let log2 = extent.first_size::<F>();
+    if log2 == 0 {
+        // pages come first: where the size is a constant, so is the level of their table
+        return map_extent::<F, H>(holder, extent, 0, false);
+    }
     map_extent::<F, H>(holder, extent, log2, false)
 }

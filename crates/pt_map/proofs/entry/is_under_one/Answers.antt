@@ -22,7 +22,7 @@ returns g c = λ yes.
       lower = elim (cases_lt (first_size f x) (f.index * c.args.level)) [
         | inl less ↦ less
         | inr more ↦ absurd (
-          let up : c.entry_bits.result ≤ first_size f x = omega arith in
-          let wide : 2 ^ c.entry_bits.result ≤ 2 ^ first_size f x = pow_mono up in omega (arith, wide, fits, pages, fewer))
+            let up : c.entry_bits.result ≤ first_size f x = omega arith in
+            let wide : 2 ^ c.entry_bits.result ≤ 2 ^ first_size f x = pow_mono up in omega (arith, wide, fits, pages, fewer))
       ];
     }
