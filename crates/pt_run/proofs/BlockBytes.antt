@@ -7,7 +7,7 @@ use Rattle.std.proofs.lemmas.Nat.{one_shl, pow_below, pow_pos}
 use Rattle.pt_model.specs.declared.block.Block.{Block}
 use Rattle.pt_model.specs.Layout.{Layout, input_pages, pages}
 use Rattle.pt_format.specs.Laws.{IsLayout}
-use Rattle.iopt.specs.Telling.{IsNameable}
+use Rattle.pt_run.specs.Telling.{IsNameable}
 
 -- what all of a list pass, one that is there passes
 any_of_all : (p : ℕ → Bool) (ks : List ℕ) (k : ℕ) → IsTrue (list_any (λ j. j == k) ks) → IsTrue (list_all p ks) → IsTrue (p k)

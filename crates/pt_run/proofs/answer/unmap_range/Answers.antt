@@ -1,9 +1,9 @@
 use Rattle.std.proofs.Common.{Some, ap, ◌∙◌}
 use Rattle.pt_sweep.specs.Unmaps.{refusal_of}
 use Rattle.pt_view.specs.Views.{book_of}
-use Rattle.iopt.specs.Running.{blocks_of}
-use Rattle.iopt.proofs.UnmapFacts.{cut_is_legal, unmaps}
-use Rattle.iopt.proofs.runner.unmap_range.Goals as goal
+use Rattle.pt_run.specs.Running.{blocks_of}
+use Rattle.pt_run.proofs.UnmapFacts.{cut_is_legal, unmaps}
+use Rattle.pt_run.proofs.runner.unmap_range.Goals as goal
 
 pub returns-in-Ok-clause-unmaps : goal.returns-in-Ok-clause-unmaps
 returns-in-Ok-clause-unmaps g c =

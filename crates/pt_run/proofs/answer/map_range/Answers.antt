@@ -1,9 +1,9 @@
 use Rattle.std.proofs.Common.{◌≡◌, ◌∙◌, ap, length, subst, arith}
 use Rattle.pt_view.specs.Views.{Aside, linked_count}
 use Rattle.pt_map.specs.Answers.{IsShortOf, extent_at, refusal_of}
-use Rattle.iopt.specs.Running.{blocks_of}
-use Rattle.iopt.proofs.MapFacts.{maps, wants}
-use Rattle.iopt.proofs.runner.map_range.Goals as goal
+use Rattle.pt_run.specs.Running.{blocks_of}
+use Rattle.pt_run.proofs.MapFacts.{maps, wants}
+use Rattle.pt_run.proofs.runner.map_range.Goals as goal
 
 pub returns-in-Ok-clause-maps : goal.returns-in-Ok-clause-maps
 returns-in-Ok-clause-maps g c =

@@ -1,8 +1,8 @@
 use Rattle.std.proofs.Common.{ap, subst, sym, ◌<◌, ◌∙◌}
 use Rattle.pt_model.specs.Layout.{input_pages}
 use Rattle.pt_model.specs.Pages.{byte_at}
-use Rattle.iopt.proofs.BlockBytes.{log2_fits, pages_below, pages_fit}
-use Rattle.iopt.proofs.text.bytes_in.Goals as goal
+use Rattle.pt_run.proofs.BlockBytes.{log2_fits, pages_below, pages_fit}
+use Rattle.pt_run.proofs.text.bytes_in.Goals as goal
 
 pub overflow_shl-block : goal.overflow_shl-block
 overflow_shl-block g c = log2_fits g.F.Format.layout g.met.F.Format.lawful_layout c.args.block c.requires

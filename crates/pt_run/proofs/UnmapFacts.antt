@@ -13,9 +13,12 @@ use Rattle.pt_book.proofs.ListFacts.{found_is}
 use Rattle.pt_view.specs.declared.view.View.{View}
 use Rattle.pt_view.specs.Views.{IsAtRest, SameRange}
 use Rattle.pt_sweep.specs.Unmaps.{IsUnmapped}
-use Rattle.iopt.specs.Built.{machine}
-use Rattle.iopt.specs.Running.{IsReady, UnmapsAs, blocks_of, book_in, machine_in}
-use Rattle.iopt.proofs.MapFacts.{blocks_are}
+use Rattle.pt_run.specs.Built.{machine}
+use Rattle.pt_run.specs.Running.{IsReady, AnswersAs, blocks_of, book_in, machine_in}
+use Rattle.pt_model.specs.declared.command.What.TheVariants.{Unmap}
+use Rattle.pt_model.specs.declared.reply.Answer.{Answer}
+use Rattle.pt_model.specs.declared.reply.Answer.TheVariants as answering
+use Rattle.pt_run.proofs.MapFacts.{blocks_are}
 
 -- A block that is named as cut is one of the book.
 
@@ -67,14 +70,14 @@ module _ (f : Layout) (v w : View) (ready : IsReady f v) (va len : ℕ) where
 
   -- the range went
   pub unmaps : (tells alone : Type 0) (pages : ℕ) → refusal ≡ None → IsUnmapped f tells alone v w (blocks_of v.pieces) first count pages →
-      UnmapsAs f v w va len (unmapping.Unmapped pages)
+      AnswersAs f v w (Unmap va len) (answering.Unmap (unmapping.Unmapped pages))
   unmaps tells alone pages e done =
       let is : unmap_answer (machine_in f v) (book_in v) va len ≡ unmapping.Unmapped (pages_gone (book_in v) first count) = answer_by None e in
       let now : blocks_of w.pieces ≡ after_it.blocks = blocks_are f w after_it.blocks done.rest in
       record {
         ready = subst (IsAtRest f w) (sym now) done.rest;
         machine = same_machine done.range;
-        answers = ap unmapping.Unmapped done.pages ∙ sym is;
+        answers = ap (λ (a : UnmapAnswer). Some (answering.Unmap a)) (is ∙ ap unmapping.Unmapped (sym done.pages));
         book = (λ i. record { first = done.range.first i; count = done.range.count i; blocks = now i; tables = done.tables i; top = done.top i })
             ∙ ap (λ (x : UnmapAnswer). after_unmap x after_it (book_in v)) (sym is);
       }
