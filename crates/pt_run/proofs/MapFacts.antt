@@ -97,7 +97,7 @@ module _ (f : Layout) (v w : View) (ready : IsReady f v) (va pa len : ℕ) (prot
       map_answer (machine_in f v) (book_in v) short va pa len ≡ elim o [ Some r ↦ refused_answer r | None ↦ if b then mapping.Frames else mapping.Mapped ]
   answer_by o b e s = (λ i. elim (e i) [ Some r ↦ refused_answer r | None ↦ if s i then mapping.Frames else mapping.Mapped ])
 
-  said : MapAnswer → Option Answer
+  abbrev said : MapAnswer → Option Answer
   said a = Some (answering.Map a)
 
   same_machine : SameRange v w → machine_in f w ≡ machine_in f v
@@ -119,7 +119,7 @@ module _ (f : Layout) (v w : View) (ready : IsReady f v) (va pa len : ℕ) (prot
   }
 
   -- it is refused for another cause than frames
-  pub refuses : (r : MapRefusal) → refusal ≡ Some r → IsRefused f ⊥ v w → AnswersAs f v w (Map va pa len prot) (answering.Map (refused_answer r))
+  pub refuses : {tells : Type 0} (r : MapRefusal) → refusal ≡ Some r → IsRefused f tells v w → AnswersAs f v w (Map va pa len prot) (answering.Map (refused_answer r))
   refuses r e stays = kept stays.range stays.book stays.path stays.prepared stays.end (refused_answer r) (sym (answer_by (Some r) short e refl)) (same r)
     where
       same : (r : MapRefusal) → after_map (refused_answer r) after_it (book_in v) ≡ book_in v
@@ -129,12 +129,12 @@ module _ (f : Layout) (v w : View) (ready : IsReady f v) (va pa len : ℕ) (prot
       same (Occupied address) = refl
 
   -- it wants frames
-  pub wants : refusal ≡ None → v.frames < linked_of v + length lacks → IsRefused f ⊥ v w → AnswersAs f v w (Map va pa len prot) (answering.Map mapping.Frames)
+  pub wants : {tells : Type 0} → refusal ≡ None → v.frames < linked_of v + length lacks → IsRefused f tells v w → AnswersAs f v w (Map va pa len prot) (answering.Map mapping.Frames)
   wants e more stays =
       kept stays.range stays.book stays.path stays.prepared stays.end mapping.Frames (sym (answer_by None true e (short_is true (lt-ltb v.frames (linked_of v + length lacks) more)))) refl
 
   -- it is done
-  pub maps : refusal ≡ None → linked_of v + length lacks ≤ v.frames → IsMapped f ⊥ v w blocks (extent_at f va pa len prot) → AnswersAs f v w (Map va pa len prot) (answering.Map mapping.Mapped)
+  pub maps : {tells : Type 0} → refusal ≡ None → linked_of v + length lacks ≤ v.frames → IsMapped f tells v w blocks (extent_at f va pa len prot) → AnswersAs f v w (Map va pa len prot) (answering.Map mapping.Mapped)
   maps e enough done =
       let is : map_answer (machine_in f v) (book_in v) short va pa len ≡ mapping.Mapped = answer_by None false e (short_is false (le-ltb v.frames (linked_of v + length lacks) enough)) in
       let now : blocks_of w.pieces ≡ (mapped f v.levels (book_of v blocks) first (first + count - first) out prot).blocks = blocks_are f w _ done.rest in
@@ -148,8 +148,8 @@ module _ (f : Layout) (v w : View) (ready : IsReady f v) (va pa len : ℕ) (prot
       }
 
 -- Loads leave the holder as it was, but for what it knows.
-pub looked : (f : Layout) (tells : Type 0) (v w : View) → ByLoads tells v w → IsAtRest f w (blocks_of v.pieces) → RestsAsBefore f v w
-looked f tells v w walked rest = record {
+pub looked : (f : Layout) {tells : Type 0} (v w : View) → ByLoads tells v w → IsAtRest f w (blocks_of v.pieces) → RestsAsBefore f v w
+looked f v w walked rest = record {
   ready = subst (λ (xs : List Piece). IsAtRest f w (blocks_of xs)) (sym walked.book.pieces) rest;
   machine = λ i. machine f (walked.range.levels i) (walked.range.frames i);
   book = λ i. record { first = walked.range.first i; count = walked.range.count i; blocks = blocks_of (walked.book.pieces i); tables = walked.book.tables i; top = walked.book.top i };

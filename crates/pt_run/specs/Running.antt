@@ -1,5 +1,5 @@
 -- What each command does to a holder at rest, by the book machine, and a run in its middle.
-use Rattle.std.specs.Prelude.{◌≡◌, ℕ, ◌+◌, ◌==◌, false, Bool, All, List, [], ◌∷◌, ◌++◌, Some, IsTrue, if◌then◌else◌}
+use Rattle.std.specs.Prelude.{◌≡◌, ℕ, ◌+◌, ◌==◌, false, Bool, All, List, [], ◌∷◌, ◌++◌, Some, IsTrue, take, if◌then◌else◌}
 use Rattle.pt_model.specs.declared.block.Block.{Block}
 use Rattle.pt_model.specs.declared.command.Command.{Command}
 use Rattle.pt_model.specs.declared.command.What.{What}
@@ -8,7 +8,7 @@ use Rattle.pt_model.specs.declared.reply.Answer.{Answer}
 use Rattle.pt_model.specs.Layout.{Layout}
 use Rattle.pt_model.specs.Book.{Book}
 use Rattle.pt_model.specs.Cuts.{crosses, spanning}
-use Rattle.pt_model.specs.Dumps.{blocks_inside}
+use Rattle.pt_model.specs.Dumps.{blocks_inside, dump_limit}
 use Rattle.pt_model.specs.Run.{Machine, ByAccount, answer_to, at_start, book_after, lacks_frames, replies_from, state_after}
 use Rattle.pt_model.specs.Text.{replies_text}
 use Rattle.pt_view.specs.declared.view.View.{View}
@@ -62,6 +62,10 @@ IsUncrossed v page = All (λ b. crosses page b ≡ false) (blocks_of v.pieces)
 -- the blocks of the pages from `first` to before `last`
 abbrev pub blocks_over : View → (first last : ℕ) → List Block
 blocks_over v first last = blocks_inside (spanning (book_in v) first last)
+
+-- one more block is listed behind lower ones: the lowest are then the same, whatever follows
+abbrev pub ListsNext : (old : List Block) → Block → (new : List Block) → Type 0
+ListsNext old block new = (left : List Block) → take dump_limit (new ++ left) ≡ take dump_limit (old ++ block ∷ left)
 
 -- the blocks that are left of a walk
 abbrev pub left_in : View → Way → List Block

@@ -1,15 +1,15 @@
 //! What a single command answers, over any holder at rest.
 
-ghost use Rattle.std.specs.Prelude.{◌≡◌, ◌+◌, [], ◌<◌, All, IfOk, IsTrue};
+ghost use Rattle.std.specs.Prelude.{◌≡◌, ◌+◌, ◌<◌, ◌≤◌, [], length, All, IfOk, OnOk, IsTrue};
 ghost use Rattle.pt_model.specs.declared.command.What.TheVariants as what;
 ghost use Rattle.pt_model.specs.declared.reply.Answer.TheVariants as answer;
-ghost use Rattle.pt_model.specs.Dumps.{dumped};
+ghost use Rattle.pt_model.specs.Dumps.{dump_limit, dumped};
 ghost use Rattle.pt_view.specs.Loads.{ByLoads};
 ghost use Rattle.pt_view.specs.Views.{KeepsRest, Stays};
 ghost use Rattle.pt_walk.specs.RangeWalks.{HasSpan, IsWalking, rested};
 ghost use Rattle.pt_run.specs.Built.{is_built};
 ghost use Rattle.pt_run.specs.Telling.{has_small_blocks, IsListable, IsTellable, NamesLegalBlock};
-ghost use Rattle.pt_run.specs.Running.{IsReady, IsUncrossed, AnswersAs, RestsAsBefore, blocks_over, left_in};
+ghost use Rattle.pt_run.specs.Running.{IsReady, IsUncrossed, AnswersAs, ListsNext, RestsAsBefore, blocks_over, left_in};
 
 use pt_format::{Block, Format, Span};
 use pt_map::{MapRefused, map};
@@ -78,6 +78,18 @@ pub(crate) fn look_up<F: Format, H: Holder<F>>(holder: &mut H, va: u64) -> Looku
     }
 }
 
+/// Lists a block behind lower ones, where the list isn't full.
+fn list_block(lowest: &mut Vec<Block>, block: Block) -> Result<(), Memory>
+    requires few { length lowest.old.items ≤ dump_limit }
+    ensures few { OnOk result (length lowest.new.items ≤ dump_limit) }
+    ensures next { OnOk result (ListsNext lowest.old.items block lowest.new.items) }
+{
+    if lowest.len() < DUMP_LIMIT {
+        lowest.push(block)?;
+    }
+    Ok(())
+}
+
 /// Counts the blocks that are left of a walk, and lists the lowest of them.
 fn list_blocks<F: Format, H: Holder<F>>(
     alloc: Global,
@@ -96,9 +108,7 @@ fn list_blocks<F: Format, H: Holder<F>>(
     let mut lowest = Vec::new(alloc);
     while let Some(block) = walk.next::<H>(holder) {
         count += 1;
-        if lowest.len() < DUMP_LIMIT {
-            lowest.push(block)?;
-        }
+        list_block(&mut lowest, block)?;
     }
     Ok(Dump {
         count,

@@ -1,6 +1,7 @@
 //! The text of replies, appended to one vector of bytes.
 
 ghost use Rattle.std.specs.Prelude.{◌≡◌, ◌++◌, ◌*◌, ◌^◌, ◌<◌, All, OnOk, codes};
+ghost use Rattle.pt_model.specs.Numbers.{decimal};
 ghost use Rattle.pt_model.specs.Text.{map_text, bytes_of, cut_text, unmap_text, fork_text, lookup_text, words_of, part_word, block_text, block_lines, dump_text, walk_text, census_text, answer_text, reply_text};
 ghost use Rattle.pt_run.specs.Telling.{IsNameable, IsListable, IsTellable, NamesLegalBlock, CutsLegalBlock, output_text, words_text};
 
@@ -199,17 +200,22 @@ fn push_walk(out: &mut Vec<u8>, answer: Option<(u64, Prot)>) -> Result<(), Memor
     Ok(())
 }
 
+/// Appends a name and a number.
+fn push_count(out: &mut Vec<u8>, name: &[u8], count: u64) -> Result<(), Memory>
+    ensures { OnOk result (out.new.items ≡ out.old.items ++ (name.now ++ decimal count)) }
+{
+    out.extend_from_slice(name)?;
+    push_dec(out, count)
+}
+
 fn push_census(out: &mut Vec<u8>, census: Census) -> Result<(), Memory>
     ensures { OnOk result (out.new.items ≡ out.old.items ++ census_text census) }
 {
-    out.extend_from_slice(b"census levels ")?;
-    push_dec(out, u64::from(census.levels))?;
-    out.extend_from_slice(b" tables ")?;
-    push_dec(out, census.tables)?;
-    out.extend_from_slice(b" blocks ")?;
-    push_dec(out, census.blocks)?;
-    out.extend_from_slice(b" pages ")?;
-    push_dec(out, census.pages)
+    push_count(out, b"census levels ", u64::from(census.levels))?;
+    push_count(out, b" tables ", census.tables)?;
+    push_count(out, b" blocks ", census.blocks)?;
+    push_count(out, b" pages ", census.pages)?;
+    Ok(())
 }
 
 fn push_release(out: &mut Vec<u8>) -> Result<(), Memory>

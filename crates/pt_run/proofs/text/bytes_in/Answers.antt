@@ -1,18 +1,23 @@
-use Rattle.std.proofs.Common.{ap, subst, sym, ◌<◌, ◌∙◌}
-use Rattle.pt_model.specs.Layout.{input_pages}
-use Rattle.pt_model.specs.Pages.{byte_at}
-use Rattle.pt_run.proofs.BlockBytes.{log2_fits, pages_below, pages_fit}
+use Rattle.std.proofs.Common.{◌≡◌, ◌+◌, ◌^◌, ◌<◌, ap, sym, ◌∙◌, arith}
+use Rattle.std.proofs.lemmas.Nat.{one_shl}
+use Rattle.pt_run.proofs.BlockBytes.{size_below}
 use Rattle.pt_run.proofs.text.bytes_in.Goals as goal
 
-pub overflow_shl-block : goal.overflow_shl-block
-overflow_shl-block g c = log2_fits g.F.Format.layout g.met.F.Format.lawful_layout c.args.block c.requires
-
-pub byte_of-requires : goal.byte_of-requires
-byte_of-requires g c =
+pub overflow_shl-result : goal.overflow_shl-result
+overflow_shl-result g c =
     let f = g.F.Format.layout in
-    subst (λ n. n < input_pages f) (sym (pages_fit f g.met.F.Format.lawful_layout c.args.block c.requires)) (pages_below f c.args.block c.requires)
+    let granule : c.GRANULE.result ≡ f.granule = c.GRANULE.ensures ∙ sym g.met.F.Format.has_constants.granule_is in
+    omega (arith, granule, size_below f c.args.block c.requires, g.met.F.Format.lawful_layout.input_high)
+
+pub overflow_add-result : goal.overflow_add-result
+overflow_add-result g c =
+    let f = g.F.Format.layout in
+    let granule : c.GRANULE.result ≡ f.granule = c.GRANULE.ensures ∙ sym g.met.F.Format.has_constants.granule_is in
+    omega (arith, granule, size_below f c.args.block c.requires, g.met.F.Format.lawful_layout.input_high)
 
 pub returns : goal.returns
 returns g c =
     let f = g.F.Format.layout in
-    c.byte_of.ensures ∙ ap (byte_at f) (pages_fit f g.met.F.Format.lawful_layout c.args.block c.requires)
+    let granule : c.GRANULE.result ≡ f.granule = c.GRANULE.ensures ∙ sym g.met.F.Format.has_constants.granule_is in
+    let few : c.GRANULE.result + c.args.block.log2 < 64 = omega (arith, granule, size_below f c.args.block c.requires, g.met.F.Format.lawful_layout.input_high) in
+    one_shl (c.GRANULE.result + c.args.block.log2) 64 few ∙ ap (λ k. 2 ^ (k + c.args.block.log2)) granule
