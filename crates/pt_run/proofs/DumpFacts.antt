@@ -1,8 +1,8 @@
 -- What a dump counts and lists.
-use Rattle.std.proofs.Common.{◌≡◌, ◌<◌, ◌≤◌, ℕ, suc, zero, ◌+◌, ◌-◌, ◌^◌, ◌++◌, ◌∷◌, [], List, length, Bool, true, false, Some, cond, inl, inr, refl, ap, sym, ◌∙◌, subst, arith}
+use Rattle.std.proofs.Common.{◌≡◌, ◌≤◌, ℕ, suc, zero, ◌+◌, ◌-◌, ◌^◌, ◌++◌, ◌∷◌, [], List, length, Bool, true, false, Some, cond, inl, inr, refl, ap, sym, ◌∙◌, subst, arith}
 use Rattle.std.specs.Prelude.{All, AllPairs, IfOk, IsTrue, Result, Ok, Err, filter, slice_index_or, take, nat_lt, nat_le}
 use Rattle.std.proofs.lemmas.Bool.{and_parts, and_from, cases_Bool, cases_lt, le-leb, leb-true, lt-ltb, ltb-true}
-use Rattle.std.proofs.lemmas.List.{append_assoc, take-append-le, take_all}
+use Rattle.std.proofs.lemmas.List.{append-nil, take-append-le, take_all}
 use Rattle.std.proofs.lemmas.List.Elements.{All-filter, All-take}
 use Rattle.std.proofs.lemmas.Nat.{pow_pos}
 use Rattle.pt_model.specs.declared.block.Block.{Block}
@@ -130,16 +130,12 @@ pub lists_on : (came now : List Block) (b : Block) (old new all : List Block) �
     take dump_limit (came ++ old) ≡ take dump_limit all → take dump_limit (now ++ new) ≡ take dump_limit all
 lists_on came now b old new all next e listed = next new ∙ ap (λ (xs : List Block). take dump_limit (came ++ xs)) (sym e) ∙ listed
 
-append_nil : (xs : List Block) → xs ++ [] ≡ xs
-append_nil [] = refl
-append_nil (x ∷ xs) = ap (λ (ys : List Block). x ∷ ys) (append_nil xs)
-
 pub dumps_all : (count : ℕ) (came left all : List Block) → left ≡ [] → count + length left ≡ length all → length came ≤ dump_limit →
     take dump_limit (came ++ left) ≡ take dump_limit all → dump_of count came ≡ dumped all
 dumps_all count came left all none counted few listed =
     let number : count ≡ length all = (let l = ap length none in omega arith) in
     let lowest : came ≡ take dump_limit all =
-    sym (take_all dump_limit came few) ∙ ap (take dump_limit) (sym (append_nil came))
+    sym (take_all dump_limit came few) ∙ ap (take dump_limit) (sym (append-nil came))
     ∙ ap (λ (xs : List Block). take dump_limit (came ++ xs)) (sym none) ∙ listed in
     λ i. dump_of (number i) (lowest i)
 

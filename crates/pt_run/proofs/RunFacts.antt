@@ -1,5 +1,5 @@
 -- A run in its middle, where the next command is answered.
-use Rattle.std.proofs.Common.{◌≡◌, ◌<◌, ℕ, suc, zero, ◌+◌, ◌++◌, ◌∷◌, [], List, length, drop, get_or, false, Option, Some, refl, ap, sym, ◌∙◌, subst, arith}
+use Rattle.std.proofs.Common.{◌≡◌, ◌<◌, ℕ, suc, zero, ◌+◌, ◌++◌, ◌∷◌, [], List, length, drop, get_or, Option, Some, refl, ap, sym, ◌∙◌, subst, arith}
 use Rattle.std.specs.Prelude.{IsTrue}
 use Rattle.std.proofs.lemmas.Bool.{and_parts, false≢true}
 use Rattle.std.proofs.lemmas.List.{append_assoc}
@@ -10,11 +10,11 @@ use Rattle.pt_model.specs.declared.reply.Answer.{Answer}
 use Rattle.pt_model.specs.declared.reply.Reply.{Reply}
 use Rattle.pt_model.specs.Layout.{Layout}
 use Rattle.pt_model.specs.Book.{Book}
-use Rattle.pt_model.specs.Run.{Machine, State, ByAccount, answer_of, answer_to, at_start, behind, book_after, is_lacking, reply_before, replies_from, state_after}
+use Rattle.pt_model.specs.Run.{Machine, State, ByAccount, answer_of, answer_to, at_start, behind, book_after, reply_before, replies_from, state_after}
 use Rattle.pt_model.specs.Text.{reply_text, replies_text}
 use Rattle.pt_view.specs.declared.view.View.{View}
 use Rattle.pt_run.specs.Built.{is_built, are_built}
-use Rattle.pt_run.specs.Running.{AnswersAs, IsReady, Runs, book_in, lacks_for, machine_in}
+use Rattle.pt_run.specs.Running.{AnswersAs, Runs, book_in, lacks_for, machine_in}
 
 -- the items from a place on are the item there and those behind it
 pub from_here : (cs : List Command) (i : ℕ) (d : Command) → i < length cs → drop i cs ≡ get_or cs i d ∷ drop (i + 1) cs

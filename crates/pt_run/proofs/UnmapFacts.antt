@@ -16,9 +16,8 @@ use Rattle.pt_sweep.specs.Unmaps.{IsUnmapped}
 use Rattle.pt_run.specs.Built.{machine}
 use Rattle.pt_run.specs.Running.{IsReady, AnswersAs, blocks_of, book_in, machine_in}
 use Rattle.pt_model.specs.declared.command.What.TheVariants.{Unmap}
-use Rattle.pt_model.specs.declared.reply.Answer.{Answer}
 use Rattle.pt_model.specs.declared.reply.Answer.TheVariants as answering
-use Rattle.pt_run.proofs.MapFacts.{blocks_are}
+use Rattle.pt_run.proofs.RestBlocks.{blocks_are}
 
 -- A block that is named as cut is one of the book.
 

@@ -1,5 +1,5 @@
 -- What each command does to a holder at rest, by the book machine, and a run in its middle.
-use Rattle.std.specs.Prelude.{◌≡◌, ℕ, ◌+◌, ◌==◌, false, Bool, All, List, [], ◌∷◌, ◌++◌, Some, IsTrue, take, if◌then◌else◌}
+use Rattle.std.specs.Prelude.{◌≡◌, ℕ, ◌==◌, false, Bool, All, List, [], ◌∷◌, ◌++◌, Some, IsTrue, take, if◌then◌else◌}
 use Rattle.pt_model.specs.declared.block.Block.{Block}
 use Rattle.pt_model.specs.declared.command.Command.{Command}
 use Rattle.pt_model.specs.declared.command.What.{What}

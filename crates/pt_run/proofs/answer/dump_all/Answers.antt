@@ -1,4 +1,3 @@
-use Rattle.std.proofs.Common.{◌≡◌}
 use Rattle.pt_view.specs.declared.view.View.{View}
 use Rattle.pt_run.specs.Running.{blocks_of}
 use Rattle.pt_run.proofs.DumpFacts.{dumps_as, uncrossed_from, uncrossed_to}

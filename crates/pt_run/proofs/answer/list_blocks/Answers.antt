@@ -1,4 +1,4 @@
-use Rattle.std.proofs.Common.{◌+◌, ◌^◌, ◌≤◌, List, ap, length, ◌∙◌, arith}
+use Rattle.std.proofs.Common.{◌^◌, ◌≤◌, List, ap, length, ◌∙◌, arith}
 use Rattle.pt_model.specs.declared.block.Block.{Block}
 use Rattle.pt_view.specs.declared.view.View.{View}
 use Rattle.pt_view.specs.Views.{book_of}

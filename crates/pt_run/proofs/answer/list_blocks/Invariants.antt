@@ -1,6 +1,5 @@
 use Rattle.std.proofs.Common.{◌≡◌, ◌+◌, ◌≤◌, ◌++◌, length}
 use Rattle.std.specs.Prelude.{take}
-use Rattle.pt_model.specs.declared.block.Block.{Block}
 use Rattle.pt_model.specs.Dumps.{dump_limit}
 use Rattle.pt_view.specs.declared.view.View.{View}
 use Rattle.pt_view.specs.Loads.{ByLoads}
