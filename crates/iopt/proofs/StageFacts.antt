@@ -4,12 +4,13 @@ use Rattle.std.specs.Prelude.{IsTrue, IsNone, IfOk, IfErr, Result, Ok, Err}
 use Rattle.std.proofs.lemmas.Bool.{cases_Bool, and_from}
 use Rattle.pt_stream.specs.Bytes.{ConsumesAll}
 use Rattle.pt_model.specs.declared.command.Command.{Command}
+use Rattle.pt_model.specs.declared.command.Ask.{Ask}
 use Rattle.pt_script.specs.declared.whole.Script.{Script}
 use Rattle.pt_script.specs.declared.error.ScriptError.{ScriptError}
 use Rattle.pt_script.specs.declared.error.ScriptError.TheVariants.{Bad, Memory}
 use Rattle.pt_script.specs.Scripts.{text_in}
-use Rattle.iopt.specs.Built.{is_built, are_built}
-use Rattle.iopt.specs.Stage.{first_unbuilt, layout_of, unbuilt_line, IsRunOf, IsAnswered, IsRefusedFor, IsStopped, WhatRunsIsNotRefused}
+use Rattle.pt_run.specs.Built.{is_built, are_built}
+use Rattle.iopt.specs.Stage.{first_ask, first_unbuilt, layout_of, unbuilt_line, IsRunOf, IsAnswered, IsRefusedFor, IsStopped, WhatRunsIsNotRefused}
 use Rattle.iopt.specs.Top.{CanRun, IsDoneWithMemory, script_status}
 
 never : {A : Type 0} → (x : A) → Some x ≡ None → ⊥
@@ -29,6 +30,19 @@ all_built (c ∷ cs) next e = elim (cases_Bool (is_built c.what)) [
 pub none_unbuilt : (cs : List Command) (next result : Option ℕ) → result ≡ first_unbuilt cs next → IsNone result → IsTrue (are_built cs)
 none_unbuilt cs next None e h = all_built cs next (sym e)
 none_unbuilt cs next (Some line) e h = absurd (apart h)
+
+-- and nothing is asked after its close
+asks_none : (cs : List Command) (asks : List Ask) → first_unbuilt cs (first_ask asks) ≡ None → asks ≡ []
+asks_none [] [] e = refl
+asks_none [] (a ∷ asks) e = absurd (never a.line e)
+asks_none (c ∷ cs) asks e = elim (cases_Bool (is_built c.what)) [
+  | inl yes_ ↦ (let rest : first_unbuilt cs (first_ask asks) ≡ None = rw yes_ at e in asks_none cs asks rest)
+  | inr not_ ↦ (let stops : Some c.line ≡ None = rw not_ at e in absurd (never c.line stops))
+]
+
+pub none_asked : (cs : List Command) (asks : List Ask) (result : Option ℕ) → result ≡ first_unbuilt cs (first_ask asks) → IsNone result → asks ≡ []
+none_asked cs asks None e h = asks_none cs asks (sym e)
+none_asked cs asks (Some line) e h = absurd (apart h)
 
 -- what a script's run answers is what its text is answered
 pub answers : {T : Type 0} → (items : T → List ℕ) (text : List ℕ) (s : Script) (result : Result T ScriptError) →

@@ -5,7 +5,7 @@ use Rattle.pt_model.specs.declared.command.Name.TheVariants.{AmdV1, VtdSs3, VtdS
 use Rattle.pt_model.specs.declared.command.Command.{Command}
 use Rattle.pt_model.specs.declared.command.Ask.{Ask}
 use Rattle.pt_model.specs.Layout.{Layout}
-use Rattle.pt_model.specs.Run.{run_of}
+use Rattle.pt_model.specs.Run.{ByAccount, run_by}
 use Rattle.pt_model.specs.Text.{replies_text}
 use Rattle.pt_script.specs.declared.whole.Script.{Script}
 use Rattle.pt_script.specs.declared.error.Reason.{Reason}
@@ -19,7 +19,7 @@ use Rattle.fmt_vtdss.specs.VtdWords as vtd
 use Rattle.fmt_x86.specs.X86Words as x86
 use Rattle.fmt_vmsa.specs.VmsaWords as vmsa
 use Rattle.fmt_riscv.specs.RiscvWords as riscv
-use Rattle.iopt.specs.Built.{is_built, machine}
+use Rattle.pt_run.specs.Built.{is_built, machine}
 
 -- the formats that run
 abbrev pub layout_of : Name → Option Layout
@@ -57,7 +57,7 @@ unbuilt_line (Some f) s = unbuilt_in s
 -- all lines of a script run, and the replies are the text of its run on a layout
 pub record IsRunOn (layout : Layout) (script : Script) (replies : List ℕ) : Type 0 where
   pub runs : unbuilt_in script ≡ None
-  pub replies_are : replies ≡ replies_text layout (run_of (machine layout script.levels script.frames) script.body)
+  pub replies_are : replies ≡ replies_text layout (run_by (machine layout script.levels script.frames) ByAccount script.body script.tail)
 
 -- the replies to a script that runs are the text of its run
 pub record IsRunOf (script : Script) (replies : List ℕ) : Type 0 where

@@ -2,10 +2,9 @@
 
 ghost use Rattle.std.specs.Prelude.{◌<◌, IfOk, IsTrue};
 ghost use Rattle.pt_book.specs.Spaces.{IsStart};
-ghost use Rattle.iopt.specs.Telling.{NamesLegalBlock, has_small_blocks};
+ghost use Rattle.pt_run.specs.Telling.{NamesLegalBlock, has_small_blocks};
 
 use crate::status::Status;
-use crate::text::push_reply;
 use crate::top::run;
 use crate::words::Words;
 use fmt_amdv1::AmdV1;
@@ -16,6 +15,7 @@ use fmt_x86::X86;
 use pt_book::ListBook;
 use pt_format::Format;
 use pt_model::{Answer, LookupAnswer, MapAnswer, Name, Prot, Reply, UnmapAnswer, What};
+use pt_run::push_reply;
 use pt_script::{Script, parse};
 use pt_stream::{MemorySink, SureSource, push_dec, push_hex};
 use std::alloc::Global;
@@ -239,7 +239,7 @@ fn book_replies<F: Format>(alloc: Global, script: &Script) -> Result<Vec<u8>, Fa
             _ => continue,
         };
         let line = command.line;
-        push_reply::<F>(&mut text, Reply { line, answer })?;
+        push_reply::<F>(&mut text, &Reply { line, answer })?;
     }
     Ok(text)
 }

@@ -14,6 +14,8 @@ ghost use Rattle.iopt.specs.Top.{IsUnread, IsUnreadBy};
 
 #[cfg(test)]
 mod book_tests;
+#[cfg(test)]
+mod dump_tests;
 mod runner;
 #[cfg(test)]
 mod script_tests;
@@ -21,7 +23,6 @@ mod stage;
 mod status;
 #[cfg(test)]
 mod tests;
-mod text;
 mod top;
 #[cfg(test)]
 mod unmap_tests;

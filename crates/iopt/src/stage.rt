@@ -1,9 +1,9 @@
 //! The scripts that the program runs so far.
 
-ghost use Rattle.std.specs.Prelude.{◌≡◌, ◌<◌, ◌≤◌, IsTrue, IsNone, IfOk, IfErr};
+ghost use Rattle.std.specs.Prelude.{◌≡◌, ◌<◌, ◌≤◌, [], IsTrue, IsNone, IfOk, IfErr};
 ghost use Rattle.pt_model.specs.Words.{frame_limit};
-ghost use Rattle.iopt.specs.Built.{is_built, are_built};
-ghost use Rattle.iopt.specs.Telling.{has_small_blocks};
+ghost use Rattle.pt_run.specs.Built.{is_built, are_built};
+ghost use Rattle.pt_run.specs.Telling.{has_small_blocks};
 ghost use Rattle.iopt.specs.Stage.{layout_of, first_unbuilt, first_ask, unbuilt_in, unbuilt_line, IsRunOn, IsRunOf, IsAnswered, IsRefusedFor, IsStopped, WhatRunsIsNotRefused};
 
 use crate::runner::run_commands;
@@ -23,7 +23,7 @@ fn is_built(what: What) -> bool
 {
     matches!(
         what,
-        What::Map { .. } | What::Unmap { .. } | What::Lookup { .. }
+        What::Map { .. } | What::Unmap { .. } | What::Lookup { .. } | What::Dump
     )
 }
 
@@ -52,6 +52,7 @@ fn first_unbuilt(commands: &[Command], asks: &[Ask]) -> Option<u32>
 fn unbuilt_in(script: &Script) -> Option<u32>
     ensures first { result ≡ unbuilt_in script.now }
     ensures built { IsNone result → IsTrue (are_built script.now.body) }
+    ensures unasked { IsNone result → script.now.tail ≡ [] }
 {
     first_unbuilt(script.body.commands(), script.tail.asks())
 }

@@ -14,7 +14,7 @@ const FIRST_PATH: &[u8] =
 const FIRST_REPLIES: &[u8] =
     b"4 map ok\n5 lookup 0x200abc rw\n6 map occupied 0x1000\n7 map misaligned\n8 map outside\n9 lookup none\n10 lookup outside\n";
 
-const ROOM: usize = 4096;
+pub(crate) const ROOM: usize = 4096;
 
 fn one_word(alloc: Global, word: &str) -> Result<Words, Fail> {
     let mut words = Words::new(alloc);
@@ -22,11 +22,15 @@ fn one_word(alloc: Global, word: &str) -> Result<Words, Fail> {
     Ok(words)
 }
 
-// How a run of a text ends, and what it puts.
-fn outcome(alloc: Global, text: &[u8]) -> Result<(Status, MemorySink), Fail> {
+/// How a run of a text ends, and what it puts into a sink with so much room.
+pub(crate) fn outcome(
+    alloc: Global,
+    text: &[u8],
+    room: usize,
+) -> Result<(Status, MemorySink), Fail> {
     let words = one_word(alloc, "run")?;
     let mut source = SureSource::new(Vec::from_slice(alloc, text)?);
-    let mut sink = MemorySink::new(alloc, ROOM, ROOM, Vec::new(alloc))?;
+    let mut sink = MemorySink::new(alloc, room, ROOM, Vec::new(alloc))?;
     let status = run(alloc, &words, &mut source, &mut sink);
     Ok((status, sink))
 }
@@ -128,7 +132,7 @@ const ANSWERED: [(&[u8], &[u8]); 3] = [
 #[test]
 fn scripts_are_answered(rt: HostRuntime) -> Result<(), Fail> {
     for (text, replies) in ANSWERED {
-        let (status, sink) = outcome(rt.alloc(), text)?;
+        let (status, sink) = outcome(rt.alloc(), text, ROOM)?;
         assert_eq!(rt; status, Status::Done);
         assert_eq!(rt; sink.bytes(), replies);
     }
@@ -174,7 +178,7 @@ const REFUSED: [(&[u8], u32, Reason); 11] = [
         Reason::Unbuilt,
     ),
     (
-        b"format vtdss3\nframes 8\nhold 0\nlookup 0x0\ndump\nclose\nend\n",
+        b"format vtdss3\nframes 8\nhold 0\nlookup 0x0\nfork 0x1000\nwith\nend\nclose\nend\n",
         5,
         Reason::Unbuilt,
     ),
@@ -193,7 +197,7 @@ const REFUSED: [(&[u8], u32, Reason); 11] = [
 #[test]
 fn inputs_are_refused_at_their_first_bad_line(rt: HostRuntime) -> Result<(), Fail> {
     for (text, line, reason) in REFUSED {
-        let (status, sink) = outcome(rt.alloc(), text)?;
+        let (status, sink) = outcome(rt.alloc(), text, ROOM)?;
         assert_eq!(rt; status, Status::Refused { line, reason });
         assert_eq!(rt; sink.bytes().len(), 0);
     }
@@ -212,7 +216,7 @@ const EACH_REPLY: (&[u8], &[u8]) = (
 
 #[test]
 fn each_reply_has_its_text(rt: HostRuntime) -> Result<(), Fail> {
-    let (status, sink) = outcome(rt.alloc(), EACH_REPLY.0)?;
+    let (status, sink) = outcome(rt.alloc(), EACH_REPLY.0, ROOM)?;
     assert_eq!(rt; status, Status::Done);
     assert_eq!(rt; sink.bytes(), EACH_REPLY.1);
     Ok(())
@@ -243,7 +247,7 @@ fn each_reason_has_its_name(rt: HostRuntime) -> Result<(), Fail> {
 #[test]
 fn an_input_has_a_limit(rt: HostRuntime) -> Result<(), Fail> {
     let most = vec![in rt.alloc(); b'a'; 1_048_576]?;
-    let (status, _) = outcome(rt.alloc(), &most)?;
+    let (status, _) = outcome(rt.alloc(), &most, ROOM)?;
     assert_eq!(rt;
         status,
         Status::Refused {
@@ -252,7 +256,7 @@ fn an_input_has_a_limit(rt: HostRuntime) -> Result<(), Fail> {
         }
     );
     let more = vec![in rt.alloc(); b'a'; 1_048_577]?;
-    let (status, sink) = outcome(rt.alloc(), &more)?;
+    let (status, sink) = outcome(rt.alloc(), &more, ROOM)?;
     assert_eq!(rt; status, Status::TooLong);
     assert_eq!(rt; sink.bytes().len(), 0);
     Ok(())

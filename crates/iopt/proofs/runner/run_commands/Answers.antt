@@ -1,31 +1,21 @@
-use Rattle.std.proofs.Common.{◌∙◌, subst}
-use Rattle.pt_model.specs.declared.block.Prot.TheVariants.{Read}
-use Rattle.pt_model.specs.declared.command.Command.{Command}
-use Rattle.pt_model.specs.declared.command.What.TheVariants.{Map}
-use Rattle.iopt.specs.Built.{machine}
-use Rattle.iopt.specs.Running.{Runs}
-use Rattle.iopt.proofs.RunFacts.{from_here, next_built, runs_on}
+use Rattle.std.proofs.Common.{[], List, ℕ, ap, subst}
+use Rattle.pt_view.specs.Views.{Aside}
+use Rattle.pt_run.specs.Running.{Runs}
+use Rattle.pt_run.proofs.RestBlocks.{ready_at}
+use Rattle.iopt.proofs.RunFacts.{run_is}
 use Rattle.iopt.proofs.runner.run_commands.Goals as goal
 
--- a command where a list has none
-abbrev no_command : Command
-no_command = record { line = 0; what = Map 0 0 0 Read }
+pub run_in_turn-requires-clause-ready : goal.run_in_turn-requires-clause-ready
+run_in_turn-requires-clause-ready g c = ready_at g.F.Format.layout c.in_ok-plain.plain.view c.in_ok-plain.ensures.opened.rest
 
-pub answer-requires-clause-built : goal.answer-requires-clause-built
-answer-requires-clause-built g c =
-    let f = g.F.Format.layout in
-    let commands = c.args.commands.now in
-    let at = c.loop-command in
-    let left = subst (Runs f (machine f c.args.levels c.args.frames) commands at.plain.view at.text.items) (from_here commands at.command-index no_command c.loop-command-test.true) at.invariant.0 in
-    next_built f (machine f c.args.levels c.args.frames) commands _ _ _ _ left
+pub run_in_turn-requires-clause-aside : goal.run_in_turn-requires-clause-aside
+run_in_turn-requires-clause-aside g c = ap (λ (a : Aside). a.positions) c.in_ok-plain.ensures.aside
 
-pub loop-command-preserved : goal.loop-command-preserved
-loop-command-preserved g c =
+pub returns : goal.returns
+returns g c =
     let f = g.F.Format.layout in
-    let commands = c.args.commands.now in
-    let at = c.loop-command in
-    let left = subst (Runs f (machine f c.args.levels c.args.frames) commands at.plain.view at.text.items) (from_here commands at.command-index no_command c.loop-command-test.true) at.invariant.0 in
-    let done = c.answer.ensures.answers in (
-      runs_on f (machine f c.args.levels c.args.frames) commands _ _ _ _ _ c.answer.result _ left done.ready done.machine done.answers done.book c.in_ok-push_reply.ensures,
-      c.answer.ensures.aside ∙ at.invariant.1,
-    )
+    let v = c.in_ok-plain.plain.view in
+    let w = c.run_in_turn.new.holder.view in
+    let text : List ℕ = c.run_in_turn.new.text.items in
+    run_is f c.args.frames c.args.levels c.args.hold v c.in_ok-plain.ensures.opened w c.args.commands.now text
+    (subst (λ (old : List ℕ). Runs f v w c.args.commands.now [] old text) c.new-text.ensures.items c.in_ok-run_in_turn.ensures.runs)

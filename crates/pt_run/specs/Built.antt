@@ -1,0 +1,23 @@
+-- The commands that are run one by one, with no fork.
+use Rattle.std.specs.Prelude.{ℕ, Bool, true, false, List}
+use Rattle.std.specs.List.{list_all}
+use Rattle.pt_model.specs.declared.command.What.{What}
+use Rattle.pt_model.specs.declared.command.What.TheVariants.{Map, Unmap, Lookup, Dump}
+use Rattle.pt_model.specs.declared.command.Command.{Command}
+use Rattle.pt_model.specs.Layout.{Layout}
+use Rattle.pt_model.specs.Run.{Machine}
+
+-- maps, unmaps, lookups and dumps
+abbrev pub is_built : What → Bool
+is_built (Map va pa len prot) = true
+is_built (Unmap va len) = true
+is_built (Lookup va) = true
+is_built Dump = true
+is_built _ = false
+
+abbrev pub are_built : List Command → Bool
+are_built commands = list_all (λ c. is_built c.what) commands
+
+-- what runs a script of this format, with so many levels from the start and so many frames
+abbrev pub machine : Layout → (levels frames : ℕ) → Machine
+machine f levels frames = record { layout = f; levels = levels; frames = frames }
