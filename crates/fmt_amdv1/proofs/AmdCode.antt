@@ -13,7 +13,8 @@ use Rattle.pt_model.specs.declared.block.Prot.TheVariants.{Read, ReadWrite}
 use Rattle.pt_model.specs.Layout.{is_common, page}
 use Rattle.pt_format.specs.Words.{GoBy, HasSizes, IsLeaf, IsPointer, IsWritten, MayBeLeaves, a_leaf, a_pointer}
 use Rattle.pt_format.specs.Manual.{IsOutput}
-use Rattle.pt_format.proofs.BitFacts.{set_bit}
+use Rattle.pt_num.proofs.Bits.{set_bit}
+use Rattle.pt_format.proofs.BitFacts.{place_bit}
 use Rattle.pt_format.proofs.Permissions.{of_common}
 use Rattle.pt_manual.specs.AmdWalk.{next_level}
 use Rattle.fmt_amdv1.specs.AmdWords.{IsLeafOf, bits_of, layout, leaf, log2_in, next_of, number_in, number_of, word_of}
@@ -39,20 +40,14 @@ word_built number next prot word few low stated is =
     (or_ends (number * 8 + next) 1 (omega arith) ∙ omega arith)
     (or_ends (number * 8 + next) 3 (omega arith) ∙ omega arith) prot stated
 
--- bit 62 of a word whose bit 63 is clear
-write_bit : (high low : ℕ) → low < 2 ^ 62 → bit_and (high * 2 ^ 62 + low) (2 ^ 62) ≡ bit_and high 1 * 2 ^ 62
-write_bit high low few =
-    let both : bit_and (high * 2 ^ 62 + low) (2 ^ 62) ≡ bit_and high 1 * 2 ^ 62 + bit_and low 0 = and_block 62 high 1 low 0 few (omega arith) in
-    omega (arith, both, and_zero_r low)
-
--- the permission by that bit
+-- the permission by bit 62
 write_is : (number next : ℕ) → number < 2 ^ 40 → next < 8 →
     (bit_and (word_of number next Read) (2 ^ 62) ≡ 0) × (bit_and (word_of number next ReadWrite) (2 ^ 62) ≡ 2 ^ 62)
 write_is number next few low =
     let below : ℕ = number * 2 ^ 12 + (next * 2 ^ 9 + (1 + 2 ^ 61)) in
     let read : word_of number next Read ≡ 0 * 2 ^ 62 + below = omega arith in
     let both : word_of number next ReadWrite ≡ 1 * 2 ^ 62 + below = omega arith in
-    (ap (λ n. bit_and n (2 ^ 62)) read ∙ write_bit 0 below (omega arith), ap (λ n. bit_and n (2 ^ 62)) both ∙ write_bit 1 below (omega arith))
+    (ap (λ n. bit_and n (2 ^ 62)) read ∙ place_bit 62 0 below (omega arith), ap (λ n. bit_and n (2 ^ 62)) both ∙ place_bit 62 1 below (omega arith))
 
 leaf_write : {level log2 out word : ℕ} {prot : Prot} → IsLeafOf level log2 out word prot →
     (bit_and (word_of (number_of level log2 out) (next_of level log2) Read) (2 ^ 62) ≡ 0)

@@ -13,7 +13,7 @@ use Rattle.pt_format.proofs.Permissions.{of_common}
 use Rattle.pt_manual.specs.EntryBits.{is_aligned}
 use Rattle.pt_manual.specs.AmdWalk.{entry_at, lowest_clear, next_level, others_in, step_at}
 use Rattle.pt_manual.specs.declared.step.Step.TheVariants.{Page, Next}
-use Rattle.fmt_nine_bit.proofs.EntryFacts.{aligned_at}
+use Rattle.fmt_nine_bit.proofs.BlockFacts.{aligned_bytes}
 use Rattle.fmt_amdv1.specs.AmdWords.{IsLeafOf, IsPointerOf, IsSizeOf, bits_of, log2_in, next_of, number_in, number_of, word_of}
 
 -- what stands in the fields of a word
@@ -175,7 +175,7 @@ leaf_step {level} {log2} {out} {word} {prot} x =
       | by_default same number next ↦
           (let aligned : out % 2 ^ (9 * level) ≡ 0 = subst (λ k. out % 2 ^ k ≡ 0) same x.aligned in
           by_parts level (leaf_parts x) ∙ ap₂ (λ n k. entry_at (level + 1) (n * 2 ^ 12) k (bits_of prot)) number next
-          ∙ default_entry level (out * 2 ^ 12) prot s.low_level (aligned_at level out s.low_level aligned) x.stated
+          ∙ default_entry level (out * 2 ^ 12) prot s.low_level (aligned_bytes 12 (9 * level) out aligned) x.stated
           ∙ ap (λ k. Page (out * 2 ^ 12) (12 + k) (may_read prot) (may_write prot)) (sym same))
       | by_code other number next ↦
           (let low = s.low_level in let from = s.from in let to = s.to in

@@ -17,7 +17,8 @@ use Rattle.pt_manual.specs.declared.walked.Walked.{Walked}
 use Rattle.fmt_nine_bit.specs.OverPages.{reached}
 use Rattle.fmt_nine_bit.specs.ManualEntries.{ReadsWritten}
 use Rattle.fmt_nine_bit.specs.CommonWords.{CommonWords, entries_of, manual_of, tables_of}
-use Rattle.fmt_nine_bit.proofs.EntryFacts.{aligned_at, entry_of}
+use Rattle.fmt_nine_bit.proofs.BlockFacts.{aligned_bytes}
+use Rattle.fmt_nine_bit.proofs.EntryFacts.{entry_of}
 use Rattle.fmt_nine_bit.proofs.PermissionFacts.{one_permission}
 use Rattle.fmt_nine_bit.proofs.NineBitWalks as Walks
 
@@ -72,7 +73,7 @@ module _ {w : CommonWords} (forms : HasForms w) where
 
   a_page : (level out : ℕ) (prot : Prot) → level < 3 → out % 2 ^ (9 * level) ≡ 0 → IsTrue (is_common prot) →
       w.entry (level + 1) (out * 2 ^ 12) (w.of_leaf prot + size_bit level) ≡ Page (out * 2 ^ 12) (12 + 9 * level) (may_read prot) (may_write prot)
-  a_page level out prot low aligned stated = at level low (aligned_at level out low aligned)
+  a_page level out prot low aligned stated = at level low (aligned_bytes 12 (9 * level) out aligned)
     where
       said : ArePages w prot (out * 2 ^ 12)
       said = of_common (λ p. ArePages w p (out * 2 ^ 12)) (forms.pages (out * 2 ^ 12)).0 (forms.pages (out * 2 ^ 12)).1 prot stated

@@ -11,10 +11,3 @@ entry_of entry out bits word within low is =
     let address : address_of word ≡ out * 2 ^ 12 = omega arith in
     let rest : bits_of word ≡ bits = omega (arith, address) in
     ap₂ entry address rest
-
--- an output page that is aligned to what an entry maps
-pub aligned_at : (level out : ℕ) → level < 3 → out % 2 ^ (9 * level) ≡ 0 → is_aligned (12 + 9 * level) (out * 2 ^ 12) ≡ true
-aligned_at zero out low aligned = eq-eqb _ _ (omega arith)
-aligned_at (suc zero) out low aligned = eq-eqb _ _ (omega arith)
-aligned_at (suc (suc zero)) out low aligned = eq-eqb _ _ (omega arith)
-aligned_at (suc (suc (suc more))) out low aligned = absurd (omega arith)

@@ -7,9 +7,10 @@ use Rattle.pt_model.specs.declared.block.Prot.{Prot}
 use Rattle.pt_model.specs.Layout.{is_common, is_size, level_of_size, page}
 use Rattle.pt_format.specs.Words.{HasSizes, MayBeLeaves, GoBy, IsLeaf, IsPointer, IsWritten, a_leaf, a_pointer}
 use Rattle.pt_format.specs.Manual.{IsOutput}
-use Rattle.pt_format.proofs.BitFacts.{and_end, one_bit_set, or_bit, or_low}
+use Rattle.pt_format.proofs.BitFacts.{and_end, one_bit_set, place_bit, or_bit, or_low}
 use Rattle.pt_format.proofs.Permissions.{of_common}
 use Rattle.pt_manual.specs.RiscvWalk.{number_in}
+use Rattle.fmt_nine_bit.proofs.BlockFacts.{room_above}
 use Rattle.fmt_riscv.specs.RiscvWords.{AreLevels, IsPermissionIn, IsPointerOf, IsSingle, IsSixteen, layout, leaf, of_leaf, pointer, single, sixteen}
 use Rattle.fmt_riscv.specs.Sizes.{IsSizeOf, an_entry, of_sixteen, entry_size, size_of, sixteen_size}
 use Rattle.fmt_riscv.specs.RiscvFacts.{leaf_of_entry, leaf_small, not_four}
@@ -60,32 +61,21 @@ read_set word prot stated e =
 read_clear : (address : ℕ) → bit_and (pointer address) 2 ≡ 0
 read_clear address = and_end 10 (pointer address) 1 2 (omega arith) (omega arith)
 
-top_bit : (high low : ℕ) → low < 2 ^ 63 → bit_and (high * 2 ^ 63 + low) (2 ^ 63) ≡ bit_and high 1 * 2 ^ 63
-top_bit high low few' =
-    let block = and_block 63 high 1 low 0 few' (omega arith) in
-    let both : bit_and (high * 2 ^ 63 + low) (2 ^ 63) ≡ bit_and high 1 * 2 ^ 63 + bit_and low 0 = block in
-    omega (arith, both, and_zero_r low)
-
 pub sixteen_top : {out word : ℕ} {prot : Prot} → IsSixteen out word prot → bit_and word (2 ^ 63) ≡ 2 ^ 63
 sixteen_top {out} {word} {prot} x =
     let low = leaf_small prot x.stated in
     let is : word ≡ 1 * 2 ^ 63 + ((out + 2 ^ 3) * 2 ^ 10 + of_leaf prot) = omega (arith, x.word_is) in
-    ap (λ n. bit_and n (2 ^ 63)) is ∙ top_bit 1 ((out + 2 ^ 3) * 2 ^ 10 + of_leaf prot) (omega (arith, x.within))
+    ap (λ n. bit_and n (2 ^ 63)) is ∙ place_bit 63 1 ((out + 2 ^ 3) * 2 ^ 10 + of_leaf prot) (omega (arith, x.within))
 
 pub single_top : {level out word : ℕ} {prot : Prot} → IsSingle level out word prot → bit_and word (2 ^ 63) ≡ 0
 single_top {level} {out} {word} {prot} x =
     let low = leaf_small prot x.stated in
     let is : word ≡ 0 * 2 ^ 63 + (out * 2 ^ 10 + of_leaf prot) = omega (arith, x.word_is) in
-    ap (λ n. bit_and n (2 ^ 63)) is ∙ top_bit 0 (out * 2 ^ 10 + of_leaf prot) (omega (arith, x.within))
+    ap (λ n. bit_and n (2 ^ 63)) is ∙ place_bit 63 0 (out * 2 ^ 10 + of_leaf prot) (omega (arith, x.within))
 
 -- such words are lawful leaves
 room : (level out : ℕ) → level < 5 → out < 2 ^ 44 → out % 2 ^ (9 * level) ≡ 0 → out + 2 ^ (9 * level) ≤ 2 ^ 44
-room zero out low within aligned = omega arith
-room (suc zero) out low within aligned = omega arith
-room (suc (suc zero)) out low within aligned = omega arith
-room (suc (suc (suc zero))) out low within aligned = omega arith
-room (suc (suc (suc (suc zero)))) out low within aligned = omega arith
-room (suc (suc (suc (suc (suc more))))) out low within aligned = absurd (omega arith)
+room level out low within aligned = room_above out (9 * level) 44 (omega arith) within aligned
 
 pub single_leaf : {levels : ℕ} → AreLevels levels → {level out word : ℕ} {prot : Prot} → level < levels → IsSingle level out word prot →
     IsLeaf (layout levels) level word (9 * level) prot

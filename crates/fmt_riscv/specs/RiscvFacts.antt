@@ -8,6 +8,7 @@ use Rattle.pt_format.proofs.Permissions.{of_common}
 use Rattle.pt_manual.specs.EntryBits.{is_aligned}
 use Rattle.pt_manual.specs.RiscvWalk.{entry_at, is_sixteen, number_in, others_in, step_at}
 use Rattle.pt_manual.specs.declared.step.Step.TheVariants.{Page, Next}
+use Rattle.fmt_nine_bit.proofs.BlockFacts.{aligned_bytes}
 use Rattle.fmt_riscv.specs.RiscvWords.{IsPointerOf, leaf, of_leaf, single, sixteen}
 
 pub leaf_small : (prot : Prot) → IsTrue (is_common prot) → of_leaf prot < 2 ^ 10
@@ -20,14 +21,6 @@ leaf_of_entry log2 out prot other = let no : (log2 == 4) ≡ false = ne_eqb _ _ 
 pub not_four : (level : ℕ) → 9 * level ≢ 4
 not_four level = λ e. omega arith
 
-aligned_at : (level out : ℕ) → level < 5 → out % 2 ^ (9 * level) ≡ 0 → is_aligned (12 + 9 * level) (out * 2 ^ 12) ≡ true
-aligned_at zero out low aligned = eq-eqb _ _ (omega arith)
-aligned_at (suc zero) out low aligned = eq-eqb _ _ (omega arith)
-aligned_at (suc (suc zero)) out low aligned = eq-eqb _ _ (omega arith)
-aligned_at (suc (suc (suc zero))) out low aligned = eq-eqb _ _ (omega arith)
-aligned_at (suc (suc (suc (suc zero)))) out low aligned = eq-eqb _ _ (omega arith)
-aligned_at (suc (suc (suc (suc (suc more))))) out low aligned = absurd (omega arith)
-
 -- the manual's step at each word
 single_parts : (out bits : ℕ) → out < 2 ^ 44 → bits < 2 ^ 10 →
     (number_in (out * 2 ^ 10 + bits) ≡ out) × (others_in (out * 2 ^ 10 + bits) ≡ bits)
@@ -39,7 +32,7 @@ pub single_step : (level out : ℕ) (prot : Prot) → level < 5 → out < 2 ^ 44
     step_at level (single out prot) ≡ Page (out * 2 ^ 12) (12 + 9 * level) (may_read prot) (may_write prot)
 single_step level out prot low within aligned stated =
     let parts = single_parts out (of_leaf prot) within (leaf_small prot stated) in
-    let whole = aligned_at level out low aligned in
+    let whole = aligned_bytes 12 (9 * level) out aligned in
     ap₂ (λ n b. entry_at level (n * 2 ^ 12) b) parts.0 parts.1
     ∙ of_common (λ p. entry_at level (out * 2 ^ 12) (of_leaf p) ≡ Page (out * 2 ^ 12) (12 + 9 * level) (may_read p) (may_write p))
     (rw whole refl) (rw whole refl) prot stated

@@ -1,11 +1,11 @@
 -- What holds at each granule, and in each level with leaves.
-use Rattle.std.proofs.Common.{◌≡◌, ℕ, zero, suc, ◌+◌, ◌-◌, ◌*◌, ◌/◌, ◌%◌, ◌^◌, ◌<◌, ◌≤◌, ap, sym, subst, ◌∙◌, arith, true}
+use Rattle.std.proofs.Common.{◌≡◌, ℕ, zero, suc, ◌+◌, ◌*◌, ◌/◌, ◌%◌, ◌^◌, ◌<◌, ◌≤◌, ap, sym, subst, ◌∙◌, arith}
 use Rattle.std.specs.Prelude.{IsTrue}
-use Rattle.std.proofs.lemmas.Bool.{eq-eqb, ltb-true}
-use Rattle.std.proofs.lemmas.Nat.{mod_below, mod_low, mul-le, pow-add, pow_pos, shr_below, shr_split}
+use Rattle.std.proofs.lemmas.Bool.{ltb-true}
+use Rattle.std.proofs.lemmas.Nat.{mod_below, pow-add, pow_pos, shr_split}
 use Rattle.std.proofs.Math.Arith.{mod-mul}
-use Rattle.pt_manual.specs.EntryBits.{is_aligned}
 use Rattle.pt_manual.specs.VmsaWalk.{IsGranule, of_4_kib, of_16_kib, of_64_kib}
+use Rattle.fmt_nine_bit.proofs.BlockFacts.{multiple}
 use Rattle.fmt_vmsa.specs.VmsaWords.{entry_size, group_log2, has_leaves, levels_of}
 
 pub by_granule : (P : ℕ → Type 0) → P 12 → P 14 → P 16 → {granule : ℕ} → IsGranule granule → P granule
@@ -62,22 +62,7 @@ pub granule_range : {granule : ℕ} → IsGranule granule → (12 ≤ granule) �
 granule_range = by_granule (λ granule. (12 ≤ granule) × (granule ≤ 16))
     (omega arith, omega arith) (omega arith, omega arith) (omega arith, omega arith)
 
--- Multiples of a power of two.
-pub whole : (n k : ℕ) → n % 2 ^ k ≡ 0 → n ≡ n / 2 ^ k * 2 ^ k
-whole n k aligned = omega (arith, shr_split n k)
-
--- what is below a greater power has room up to it
-pub room_above : (n k most : ℕ) → k ≤ most → n < 2 ^ most → n % 2 ^ k ≡ 0 → n + 2 ^ k ≤ 2 ^ most
-room_above n k most less low aligned =
-    let is : most ≡ most - k + k = omega arith in
-    let few : n / 2 ^ k < 2 ^ (most - k) = shr_below n (most - k) k (subst (λ m. n < 2 ^ m) is low) in
-    let product : (n / 2 ^ k + 1) * 2 ^ k ≤ 2 ^ (most - k) * 2 ^ k =
-    mul-le (n / 2 ^ k + 1) (2 ^ k) (2 ^ (most - k)) (2 ^ k) (omega arith) (omega arith) in
-    let high : 2 ^ most ≡ 2 ^ (most - k) * 2 ^ k = ap (λ (m : ℕ). 2 ^ m) is ∙ pow-add 2 (most - k) k in
-    let own = whole n k aligned in
-    omega arith
-
--- what is below a sum of powers
+-- Multiples of a power of two: what is below a sum of powers
 pub two_digits : (n k more : ℕ) → n % 2 ^ (k + more) ≡ (n / 2 ^ k % 2 ^ more) * 2 ^ k + n % 2 ^ k
 two_digits n k more =
     let both : 2 ^ (k + more) ≡ 2 ^ more * 2 ^ k = pow-add 2 k more ∙ (let s : 2 ^ k * 2 ^ more ≡ 2 ^ more * 2 ^ k = omega arith in s) in
@@ -88,22 +73,6 @@ pub lesser : (n k more : ℕ) → n % 2 ^ (k + more) ≡ 0 → n % 2 ^ k ≡ 0
 lesser n k more aligned =
     let split = two_digits n k more in
     omega arith
-
-pub multiple : (q k : ℕ) → q * 2 ^ k % 2 ^ k ≡ 0
-multiple q k =
-    let split : q * 2 ^ k ≡ q * 2 ^ k + 0 = omega arith in
-    ap (λ n. n % 2 ^ k) split ∙ mod_low q k 0 (pow_pos k)
-
--- pages that are aligned are bytes that are
-pub aligned_bytes : (granule k n : ℕ) → n % 2 ^ k ≡ 0 → is_aligned (granule + k) (n * 2 ^ granule) ≡ true
-aligned_bytes granule k n aligned =
-    let own = whole n k aligned in
-    let both : 2 ^ (granule + k) ≡ 2 ^ granule * 2 ^ k = pow-add 2 granule k in
-    let product : n * 2 ^ granule ≡ n / 2 ^ k * 2 ^ (granule + k) =
-    ap (λ m. m * 2 ^ granule) own
-    ∙ (let s : n / 2 ^ k * 2 ^ k * 2 ^ granule ≡ n / 2 ^ k * (2 ^ granule * 2 ^ k) = omega arith in s)
-    ∙ ap (λ w. n / 2 ^ k * w) (sym both) in
-    eq-eqb _ _ (ap (λ m. m % 2 ^ (granule + k)) product ∙ multiple (n / 2 ^ k) (granule + k))
 
 -- own pages as those of a part of a greater block
 pub record IsPart (own k more : ℕ) : Type 0 where

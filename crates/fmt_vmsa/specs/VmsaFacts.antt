@@ -9,8 +9,9 @@ use Rattle.pt_format.proofs.Permissions.{of_common}
 use Rattle.pt_manual.specs.EntryBits.{is_aligned}
 use Rattle.pt_manual.specs.VmsaWalk.{IsGranule, address_in, descriptor_at, descriptor_by, entry_log2, has_blocks, index_bits, others_in}
 use Rattle.pt_manual.specs.declared.descriptor.Descriptor.TheVariants.{Invalid, Table, Page}
+use Rattle.fmt_nine_bit.proofs.BlockFacts.{aligned_bytes}
 use Rattle.fmt_vmsa.specs.VmsaWords.{IsEntry, IsPointerOf, entry_size, has_leaves, in_group, of_leaf}
-use Rattle.fmt_vmsa.specs.Granules.{aligned_bytes, by_granule, by_level, room}
+use Rattle.fmt_vmsa.specs.Granules.{by_granule, by_level, room}
 
 -- what is set in a leaf above the lowest level
 pub upper_leaf : (level : ℕ) (prot : Prot) → 0 < level → of_leaf level prot ≡ of_leaf 1 prot

@@ -9,10 +9,10 @@ use Rattle.pt_format.specs.Laws.{HasConstants, IsLayout, WordsDiffer}
 use Rattle.pt_format.specs.FourKibLaws.{layout_of}
 use Rattle.pt_format.specs.Manual.{StepsAgree}
 use Rattle.pt_manual.specs.VmsaWalk.{BLOCK, IsGranule, descriptor_at, index_bits}
-use Rattle.fmt_nine_bit.proofs.BlockFacts.{place}
+use Rattle.fmt_nine_bit.proofs.BlockFacts.{place, room_above}
 use Rattle.fmt_nine_bit.proofs.PermissionFacts.{one_permission}
 use Rattle.fmt_vmsa.specs.VmsaWords.{IsEntry, IsPointerOf, entry_size, found, in_group, layout, leaf, levels_of, of_leaf, pointer, size_of}
-use Rattle.fmt_vmsa.specs.Granules.{by_granule, few_levels, granule_range, room, room_above}
+use Rattle.fmt_vmsa.specs.Granules.{by_granule, few_levels, granule_range, room}
 use Rattle.fmt_vmsa.specs.VmsaFacts.{empty_descriptor, entry_descriptor, group_of, leaf_small, low_of, pointer_descriptor}
 use Rattle.fmt_vmsa.specs.VmsaSizes.{entry_aligned, entry_of, is_size_of, leaf_size}
 

@@ -7,8 +7,10 @@ use Rattle.pt_model.specs.declared.block.Prot.{Prot}
 use Rattle.pt_model.specs.Layout.{is_size, level_of_size}
 use Rattle.pt_format.specs.Words.{MayBeLeaf, IsLeaf}
 use Rattle.pt_manual.specs.VmsaWalk.{IsGranule}
+use Rattle.pt_model.proofs.Quotients.{whole}
+use Rattle.fmt_nine_bit.proofs.BlockFacts.{multiple, room_above}
 use Rattle.fmt_vmsa.specs.VmsaWords.{IsEntry, entry_size, entry_word, group_log2, has_leaves, layout, leaf, size_of}
-use Rattle.fmt_vmsa.specs.Granules.{by_granule, by_level, lesser, multiple, part_of, room, room_above, whole}
+use Rattle.fmt_vmsa.specs.Granules.{by_granule, by_level, lesser, part_of, room}
 
 -- a size of a level is that of an entry or of a group
 pub record IsSizeOf (granule level log2 : ℕ) : Type 0 where

@@ -13,8 +13,9 @@ use Rattle.pt_manual.specs.VmsaWalk.{IsGranule, descriptor_at, followed, index_a
 use Rattle.pt_manual.specs.declared.descriptor.Descriptor.TheVariants.{Invalid, Table, Page}
 use Rattle.fmt_nine_bit.specs.OverPages.{reached}
 use Rattle.fmt_nine_bit.proofs.NineBitWalks.{onward_all, picked, unpicked}
+use Rattle.fmt_nine_bit.proofs.BlockFacts.{multiple}
 use Rattle.fmt_vmsa.specs.VmsaWords.{entry_size, found, layout, levels_of}
-use Rattle.fmt_vmsa.specs.Granules.{by_granule, few_levels, multiple, two_digits}
+use Rattle.fmt_vmsa.specs.Granules.{by_granule, few_levels, two_digits}
 use Rattle.fmt_vmsa.specs.VmsaFacts.{empty_descriptor, entry_descriptor, pointer_descriptor}
 use Rattle.fmt_vmsa.specs.VmsaSizes.{entry_of}
 use Rattle.fmt_vmsa.specs.VmsaLaws.{pointer_of}

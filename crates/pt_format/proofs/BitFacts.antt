@@ -6,6 +6,7 @@ use Rattle.std.proofs.lemmas.Nat.{mod_below, shr_split, pow_pos, pow_apart, bit_
 use Rattle.std.proofs.lemmas.Nat.Bits.{shr_and_one, bit_at_or, bit_at-lt, bit_at-trailing_ones, bit_at_cat_low, bit_at_ones, bit_at_ones_above}
 use Rattle.std.specs.Int.{bit_at, trailing_ones, w64}
 use Rattle.std.proofs.lemmas.Bool.{cases_eq, cases_order}
+use Rattle.pt_num.proofs.Bits.{set_bit}
 
 -- bits set below place k
 pub or_low : (k a r s : ℕ) → r < 2 ^ k → s < 2 ^ k → bit_or (a * 2 ^ k + r) s ≡ a * 2 ^ k + bit_or r s
@@ -28,18 +29,19 @@ and_end k n r s is low =
     let split : n ≡ n / 2 ^ k * 2 ^ k + r = omega (arith, shr_split n k) in
     ap (λ m. bit_and m s) split ∙ and_low k (n / 2 ^ k) r s below low
 
+-- the bit at place k
+pub place_bit : (k high low : ℕ) → low < 2 ^ k → bit_and (high * 2 ^ k + low) (2 ^ k) ≡ bit_and high 1 * 2 ^ k
+place_bit k high low few =
+    let one : 1 * 2 ^ k + 0 ≡ 2 ^ k = omega arith in
+    let both = and_block k high 1 low 0 few (pow_pos k) in
+    let is : bit_and (high * 2 ^ k + low) (2 ^ k) ≡ bit_and high 1 * 2 ^ k + 0 = rw (one, and_zero_r) at both in
+    omega (arith, is)
+
 -- a mask of one bit has that bit and no other
 pub one_bit_set : (m k : ℕ) → IsBitSet (2 ^ m) k ↔ (m ≡ k)
 one_bit_set m k = (
   λ set. elim (cases_eq m k) [ inl same ↦ same | inr other ↦ absurd (set (pow_apart m k other)) ],
   λ same. subst (λ (j : ℕ). IsBitSet (2 ^ m) j) same (λ zero_and. absurd (omega (arith, pow_pos m, sym (and_self (2 ^ m)) ∙ zero_and))),
-)
-
--- a bit is set where it is 1
-pub set_bit : (n k : ℕ) → IsBitSet n k ↔ (bit_at n k ≡ 1)
-set_bit n k = (
-  (λ set. sym (shr_and_one n k) ∙ (bit_set_by_shift n k).1 set),
-  (λ one. (bit_set_by_shift n k).0 (shr_and_one n k ∙ one)),
 )
 
 -- the bits of two masks together
