@@ -5,7 +5,8 @@ ghost use Rattle.pt_model.specs.Book.{map_refusal};
 ghost use Rattle.pt_model.specs.Layout.{input_pages};
 ghost use Rattle.pt_tile.specs.Extents as extents;
 ghost use Rattle.pt_view.specs.Views.{Stays, linked_count};
-ghost use Rattle.pt_walk.specs.Walks.{Rests};
+ghost use Rattle.pt_walk.specs.declared.range.Met.TheVariants.{Leaf};
+ghost use Rattle.pt_walk.specs.Walks.{IsLowest, Rests};
 ghost use Rattle.pt_map.specs.Answers.{Accounts, Answers, extent_at};
 ghost use Rattle.pt_map.specs.Stands.{IsBlockOf};
 ghost use Rattle.pt_map.specs.Requests.{EndsBelow, Gathers, IsRefusedByNumbers, IsRequested, MayMap, MayMapBelow, occupied};
@@ -19,7 +20,7 @@ use pt_format::{Format, Prot, Span, byte_of, is_whole, range_of};
 use pt_sweep::draw;
 use pt_tile::Extent;
 use pt_view::Holder;
-use pt_walk::{Under, climb, descend, first_at, first_below, spine_end};
+use pt_walk::{Met, Stop, Under, climb, descend, first_at, first_below, spine_end};
 
 /// The extent that a request is, where its range may be mapped in a span by its numbers alone.
 fn extent_in<F: Format>(
@@ -204,6 +205,31 @@ fn map_at<F: Format, H: Holder<F>>(
     }
 }
 
+/// The same from where the way down to it ended: a block that it met there maps the first page.
+#[inline(always)]
+fn map_from<F: Format, H: Holder<F>>(
+    holder: &mut H,
+    stop: Stop,
+    extent: Extent,
+    log2: u32,
+) -> Result<(), MapRefused>
+    requires may { MayMapBelow F.layout (H.view holder.old) extent stop.level }
+    requires leaf { stop.met ≡ Leaf → IsLowest F.layout (H.view holder.old) extent.first extent.end extent.first }
+    requires size { log2 ≡ extents.first_size F.layout extent }
+    requires small { log2 < 64 }
+    ensures stays { Stays H.space H.aside H.alone holder.old holder.new }
+    ensures ends { EndsBelow F.layout H.tells (H.alone holder.old) (linked_count (H.view holder.old) (H.aside holder.old))
+        (H.view holder.old) (H.view holder.new) extent stop.level result }
+{
+    match stop.met {
+        Met::Table => map_at::<F, H>(holder, stop.level, extent, log2),
+        Met::Empty => map_below::<F, H>(holder, stop.level, extent),
+        Met::Leaf => Err(MapRefused::Occupied {
+            address: byte_of::<F>(extent.first),
+        }),
+    }
+}
+
 /// Maps an extent of the span. `log2` is the size of its first block; a `whole` extent is that block alone, of one entry.
 #[inline(always)]
 fn map_extent<F: Format, H: Holder<F>>(
@@ -226,7 +252,7 @@ fn map_extent<F: Format, H: Holder<F>>(
         climb::<F, H>(holder, 1);
         return mapped;
     }
-    let level = descend::<F, H>(
+    let stop = descend::<F, H>(
         holder,
         root,
         log2 / F::INDEX,
@@ -234,8 +260,8 @@ fn map_extent<F: Format, H: Holder<F>>(
         extent.end,
         whole,
     );
-    let mapped = map_at::<F, H>(holder, level, extent, log2);
-    climb::<F, H>(holder, root - level + 1);
+    let mapped = map_from::<F, H>(holder, stop, extent, log2);
+    climb::<F, H>(holder, root - stop.level + 1);
     mapped
 }
 

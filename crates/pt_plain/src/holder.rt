@@ -2,8 +2,8 @@
 
 use crate::plain::Plain;
 use crate::words::{
-    entry, frame_address, frame_named, held_word, next_in, placed_word, root_level, set_entry,
-    set_root, set_run, set_tag, tag_of, zero_run,
+    entry, frame_address, frame_named, held_word, next_in, placed_word, root_frame, root_level,
+    set_entry, set_root, set_run, set_tag, tag_of, zero_run,
 };
 use pt_format::Format;
 use pt_num::Span;
@@ -25,7 +25,7 @@ impl<F: Format> Holder<F> for Plain<F> {
     fn root(&mut self) -> u32 {
         let root = self.words[0];
         let level = root_level::<F>(root);
-        self.path[level as usize] = (root / 8) as u32;
+        self.path[level as usize] = root_frame(root);
         self.level = level;
         level
     }

@@ -23,10 +23,12 @@ use Rattle.pt_view.specs.Loads.{IsInSpan, IsOver}
 use Rattle.pt_view.specs.Calls.{MeetsEntry, Went, entry_end, entry_first, is_under, lowest, pieces_at}
 use Rattle.pt_view.proofs.Entries.{entry_first_is, may_enter, over_page}
 use Rattle.pt_view.proofs.Loads.{IsLoad, load_leaf, load_none, table_high, table_over, table_path}
-use Rattle.pt_walk.specs.Walks.{FindsUnder, HasNoTable, IsClear, IsFree, IsGoing, IsLowest, IsOverRange, OwnsAll, OwnsOver, StopsAt, WentDown, mapped, nothing}
+use Rattle.pt_walk.specs.Walks.{FindsUnder, HasNoTable, IsClear, IsFree, IsGoing, IsLowest, IsOverRange, OwnsAll, OwnsOver, StopsAt, WentDown}
+use Rattle.pt_walk.specs.declared.range.Met.TheVariants as met
 use Rattle.pt_walk.specs.declared.range.Under.{Under}
 use Rattle.pt_walk.specs.declared.range.Under.TheVariants.{Nothing, Tables, Mapped}
-use Rattle.pt_walk.proofs.Descent.{empty_none, entered_none, leaf_found}
+use Rattle.pt_walk.proofs.Descent.{empty_none, entered_none, leaf_found, owns_on}
+use Rattle.pt_view.proofs.Stays.{book_back}
 
 -- Ranges.
 
@@ -152,6 +154,16 @@ lowest_on {f} {first = first} {page = page} b h = record {
   free = free_on f first page b h.free;
 }
 
+-- where the word of a block was loaded, its first page is the lowest by the view after the load too
+pub lowest_after : {f : Layout} → IsLayout f → {tells alone : Type 0} {v : View} {first end level : ℕ} → IsOverRange f v first end level →
+    end ≤ (first / pages_of_entry f level + 1) * pages_of_entry f level → {seen : Seen} {w : View} → IsLoad f tells alone v first level seen w →
+    {word : ℕ} → seen ≡ Leaf word → OwnsAll f w → IsLowest f w first end first
+lowest_after {f} good {v = v} r one {w = w} l e owns =
+    let s = l.went.range in
+    let back : SameBook w v = book_back l.went.book in
+    let range : SameRange w v = record { frames = sym s.frames; levels = sym s.levels; first = sym s.first; count = sym s.count } in
+    lowest_on back (lowest_here good r one l e (owns_on f range back owns))
+
 pub clear_on : (f : Layout) {v w : View} (first end level : ℕ) → SameBook v w → IsClear f v first end level → IsClear f w first end level
 clear_on f first end level b clear = λ page low high x member has. clear page low high x (subst (λ (xs : List Piece). IsOneOf xs x) b.pieces member) has
 
@@ -237,21 +249,15 @@ owns_more f {v} page low level range book high here below = λ j from to. dite (
 
 -- Where a way down stops, by what the load of the entry found there.
 module _ {f : Layout} {tells alone : Type 0} {v : View} {first level : ℕ} {seen : Seen} {w : View} (l : IsLoad f tells alone v first level seen w) (end lowest : ℕ) where
-  pub stops_here : (¬ (seen ≡ Entered)) → StopsAt f w first end lowest level
-  stops_here not = by_kind seen refl
-    where
-      by_kind : (s : Seen) → seen ≡ s → StopsAt f w first end lowest level
-      by_kind Empty e =
-          let h = load_none l e in
-          let x = h.vacant in
-          let b = l.went.book in
-          let r = l.went.range in
-          nothing (record {
-            no_piece = ap (λ xs. pieces_at f (position_over f first level) (entry_number f level first) xs) b.pieces ∙ x.no_piece;
-            no_table = λ q a. x.no_table q (subst (λ (ps : List Position). IsAmong ps q) b.tables a);
-            none_known = λ q a. x.none_known q ((h.known q).0 a);
-            no_spine = λ k low high. x.no_spine k (let s = r.levels in subst (λ (n : ℕ). starting_top n ≤ k) s low) (let t = b.top in omega arith);
-          })
-      by_kind (Leaf word) e =
-          let h = load_leaf l e in mapped h.piece (subst (λ (xs : List Piece). IsOneOf xs h.piece) (sym l.went.book.pieces) h.member) h.here
-      by_kind Entered e = absurd (not e)
+  pub stops_empty : seen ≡ Empty → StopsAt f w first end lowest level met.Empty
+  stops_empty e =
+      let h = load_none l e in
+      let x = h.vacant in
+      let b = l.went.book in
+      let r = l.went.range in
+      record {
+        no_piece = ap (λ xs. pieces_at f (position_over f first level) (entry_number f level first) xs) b.pieces ∙ x.no_piece;
+        no_table = λ q a. x.no_table q (subst (λ (ps : List Position). IsAmong ps q) b.tables a);
+        none_known = λ q a. x.none_known q ((h.known q).0 a);
+        no_spine = λ k low high. x.no_spine k (let s = r.levels in subst (λ (n : ℕ). starting_top n ≤ k) s low) (let t = b.top in omega arith);
+      }
