@@ -45,14 +45,14 @@ fn extent_in<F: Format>(
     if range.first < span.first || end > span.first + span.count {
         return Err(MapRefused::OutsideLease);
     }
-    let outputs = 1 << F::OUTPUT;
-    if len > outputs || pa > outputs - len {
+    let out = pa >> F::GRANULE;
+    if out + range.count > 1 << (F::OUTPUT - F::GRANULE) {
         return Err(MapRefused::OutputRange);
     }
     Ok(Extent {
         first: range.first,
         end,
-        out: pa >> F::GRANULE,
+        out,
         prot,
     })
 }

@@ -104,23 +104,27 @@ pub fn descend<F: Format, H: Holder<F>>(
     ensures owned { H.alone holder.old → OwnsOver F.layout (H.view holder.old) first result.level level }
     ensures clear { StaysClear F.layout (H.view holder.old) (H.view holder.new) first end level result.level }
 {
-    if level > lowest && lies_under::<F>(level, lowest, first, end, whole) {
-        match holder.enter(entry_number::<F>(level, first)) {
-            Seen::Empty => Stop {
-                level,
-                met: Met::Empty,
-            },
-            Seen::Leaf(_) => Stop {
-                level,
-                met: Met::Leaf,
-            },
-            Seen::Entered => descend::<F, H>(holder, level - 1, lowest, first, end, whole),
+    let mut at = level;
+    while at > lowest && lies_under::<F>(at, lowest, first, end, whole) {
+        match holder.enter(entry_number::<F>(at, first)) {
+            Seen::Empty => {
+                return Stop {
+                    level: at,
+                    met: Met::Empty,
+                };
+            }
+            Seen::Leaf(_) => {
+                return Stop {
+                    level: at,
+                    met: Met::Leaf,
+                };
+            }
+            Seen::Entered => at -= 1,
         }
-    } else {
-        Stop {
-            level,
-            met: Met::Table,
-        }
+    }
+    Stop {
+        level: at,
+        met: Met::Table,
     }
 }
 
