@@ -1,14 +1,15 @@
 //! The unlinking of the tables that blocks of an extent take the place of: no page of it is mapped, but tables may stand
 //! where its blocks go.
 
-ghost use Rattle.std.specs.Prelude.{◌≡◌, false};
+ghost use Rattle.std.specs.Prelude.{◌≡◌, ◌*◌, false};
 ghost use Rattle.pt_tile.specs.Extents.{IsFirstTo, tiles, up_to};
 ghost use Rattle.pt_view.specs.Views.{Stays};
 ghost use Rattle.pt_map.specs.Stands.{IsEntryExtent};
-ghost use Rattle.pt_map.specs.Replaced.{HasNoneReplaced, MayMakeWay, UnlinksReplaced};
+ghost use Rattle.pt_map.specs.Replaced.{HasNoneReplaced, MayMakeWay, MayPutBlock, PutsBlock, UnlinksReplaced};
 
 use crate::entry::under_entry;
-use pt_format::Format;
+use crate::fill::write_entry;
+use pt_format::{Block, Format};
 use pt_sweep::clear_tables;
 use pt_tile::Extent;
 use pt_view::{Holder, Seen};
@@ -31,6 +32,48 @@ pub(crate) fn make_way<F: Format, H: Holder<F>>(
     if tables {
         unlink_replaced::<F, H>(holder, level, extent);
     }
+}
+
+/// Stores the word of an extent's one block, of one entry, in the path's last table, of this level. Where `tables` stand
+/// under the entry they are unlinked first.
+#[inline(always)]
+pub(crate) fn put_entry<F: Format, H: Holder<F>>(
+    holder: &mut H,
+    level: u32,
+    extent: Extent,
+    block: Block,
+    tables: bool,
+)
+    requires way { MayMakeWay F.layout (H.view holder.old) extent level }
+    requires none { tables ≡ false → HasNoneReplaced F.layout (H.view holder.old) (tiles F.layout extent) }
+    requires may { MayPutBlock F.layout H.tells (H.alone holder.old) (H.view holder.old) extent block level }
+    requires one { block.log2 ≡ F.layout.index * level }
+    ensures stays { Stays H.space H.aside H.alone holder.old holder.new }
+    ensures puts { PutsBlock F.layout H.tells (H.alone holder.old) (H.view holder.old) (H.view holder.new) extent block }
+{
+    if tables {
+        replace_entry::<F, H>(holder, level, extent, block);
+    } else {
+        write_entry::<F, H>(holder, level, block);
+    }
+}
+
+/// The same where tables stand there.
+#[inline(never)]
+fn replace_entry<F: Format, H: Holder<F>>(
+    holder: &mut H,
+    level: u32,
+    extent: Extent,
+    block: Block,
+)
+    requires way { MayMakeWay F.layout (H.view holder.old) extent level }
+    requires may { MayPutBlock F.layout H.tells (H.alone holder.old) (H.view holder.old) extent block level }
+    requires one { block.log2 ≡ F.layout.index * level }
+    ensures stays { Stays H.space H.aside H.alone holder.old holder.new }
+    ensures puts { PutsBlock F.layout H.tells (H.alone holder.old) (H.view holder.old) (H.view holder.new) extent block }
+{
+    unlink_replaced::<F, H>(holder, level, extent);
+    write_entry::<F, H>(holder, level, block);
 }
 
 /// Unlinks the tables that blocks of an extent take the place of, from the path's last table, of this level. Their frames

@@ -12,9 +12,9 @@ ghost use Rattle.pt_map.specs.Stands.{IsBlockOf};
 ghost use Rattle.pt_map.specs.Requests.{EndsBelow, Gathers, IsRefusedByNumbers, IsRequested, MayMap, MayMapBelow, occupied};
 
 use crate::beyond::map_beyond;
-use crate::fill::{fill, write_entry, write_run};
+use crate::fill::{fill, write_run};
 use crate::refused::MapRefused;
-use crate::replace::make_way;
+use crate::replace::{make_way, put_entry};
 use crate::survey::{Found, survey};
 use pt_format::{Format, Prot, Span, byte_of, is_whole, range_of};
 use pt_sweep::draw;
@@ -156,8 +156,7 @@ fn map_entry<F: Format, H: Holder<F>>(
     }
     // what the purse tells of the account of frames is part of the answer
     let _held = holder.purse();
-    make_way::<F, H>(holder, level, extent, under.has_tables());
-    write_entry::<F, H>(holder, level, extent.block(log2));
+    put_entry::<F, H>(holder, level, extent, extent.block(log2), under.has_tables());
     Ok(())
 }
 

@@ -22,6 +22,7 @@ impl<F: Format> Holder<F> for Plain<F> {
 
     ghost alone = { λ p. Unit {0} };
 
+    #[inline(always)]
     fn root(&mut self) -> u32 {
         let root = self.words[0];
         let level = root_level::<F>(root);
@@ -30,6 +31,7 @@ impl<F: Format> Holder<F> for Plain<F> {
         level
     }
 
+    #[inline(always)]
     fn enter(&mut self, number: u32) -> Seen {
         let level = self.level;
         let frame = self.path[level as usize];
@@ -45,6 +47,7 @@ impl<F: Format> Holder<F> for Plain<F> {
         Seen::Entered
     }
 
+    #[inline(always)]
     fn leave(&mut self) {
         self.level += 1;
     }
@@ -105,6 +108,7 @@ impl<F: Format> Holder<F> for Plain<F> {
         Won::Yes
     }
 
+    #[inline(always)]
     fn write(&mut self, number: u32, word: u64) {
         let frame = self.path[self.level as usize];
         set_entry::<F>(&mut self.words, self.frames, frame, number, word);
@@ -123,6 +127,7 @@ impl<F: Format> Holder<F> for Plain<F> {
         );
     }
 
+    #[inline(always)]
     fn clear(&mut self, number: u32) {
         let frame = self.path[self.level as usize];
         set_entry::<F>(&mut self.words, self.frames, frame, number, 0);
