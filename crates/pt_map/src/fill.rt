@@ -101,6 +101,7 @@ fn link<F: Format, H: Holder<F>>(holder: &mut H, level: u32, number: u32, page: 
 }
 
 /// Stores the word of a block of one entry in the path's last table, of this level.
+#[inline(always)]
 pub(crate) fn write_entry<F: Format, H: Holder<F>>(holder: &mut H, level: u32, block: Block)
     requires may { MayStoreRun F.layout (H.view holder.old) 1 block level }
     requires one { block.log2 ≡ F.layout.index * level }

@@ -60,12 +60,7 @@ pub(crate) fn put_entry<F: Format, H: Holder<F>>(
 
 /// The same where tables stand there.
 #[inline(never)]
-fn replace_entry<F: Format, H: Holder<F>>(
-    holder: &mut H,
-    level: u32,
-    extent: Extent,
-    block: Block,
-)
+fn replace_entry<F: Format, H: Holder<F>>(holder: &mut H, level: u32, extent: Extent, block: Block)
     requires way { MayMakeWay F.layout (H.view holder.old) extent level }
     requires may { MayPutBlock F.layout H.tells (H.alone holder.old) (H.view holder.old) extent block level }
     requires one { block.log2 ≡ F.layout.index * level }

@@ -1,15 +1,17 @@
 //! The map of a range.
 
-ghost use Rattle.std.specs.Prelude.{◌≡◌, ◌+◌, ◌*◌, ◌/◌, ◌^◌, ◌<◌, ◌≤◌, false, None, IsTrue, IfOk, IfErr};
+ghost use Rattle.std.specs.Prelude.{◌≡◌, ◌+◌, ◌*◌, ◌/◌, ◌^◌, ◌<◌, ◌≤◌, false, None, IsTrue, IfOk, IfErr, length};
 ghost use Rattle.pt_model.specs.Book.{map_refusal};
 ghost use Rattle.pt_model.specs.Layout.{input_pages};
+ghost use Rattle.pt_model.specs.Pages.{byte_at};
 ghost use Rattle.pt_tile.specs.Extents as extents;
 ghost use Rattle.pt_view.specs.Views.{Stays, linked_count};
 ghost use Rattle.pt_walk.specs.declared.range.Met.TheVariants.{Leaf};
-ghost use Rattle.pt_walk.specs.Walks.{IsLowest, Rests};
+ghost use Rattle.pt_walk.specs.Walks.{Climbs, IsLowest, Rests};
+ghost use Rattle.pt_map.specs.declared.refused.MapRefused.TheVariants.{Occupied};
 ghost use Rattle.pt_map.specs.Answers.{Accounts, Answers, extent_at};
 ghost use Rattle.pt_map.specs.Stands.{IsBlockOf};
-ghost use Rattle.pt_map.specs.Requests.{EndsBelow, Gathers, IsRefusedByNumbers, IsRequested, MayMap, MayMapBelow, occupied};
+ghost use Rattle.pt_map.specs.Requests.{EndsAbove, EndsBelow, Gathers, IsRefusedByNumbers, IsRequested, MayMap, MayMapBelow, occupied};
 
 use crate::beyond::map_beyond;
 use crate::fill::{fill, write_run};
@@ -156,7 +158,13 @@ fn map_entry<F: Format, H: Holder<F>>(
     }
     // what the purse tells of the account of frames is part of the answer
     let _held = holder.purse();
-    put_entry::<F, H>(holder, level, extent, extent.block(log2), under.has_tables());
+    put_entry::<F, H>(
+        holder,
+        level,
+        extent,
+        extent.block(log2),
+        under.has_tables(),
+    );
     Ok(())
 }
 
@@ -204,28 +212,66 @@ fn map_at<F: Format, H: Holder<F>>(
     }
 }
 
-/// The same from where the way down to it ended: a block that it met there maps the first page.
+/// The same where a table is absent, and so many tables are left then.
+#[inline(never)]
+fn map_absent<F: Format, H: Holder<F>>(
+    holder: &mut H,
+    level: u32,
+    extent: Extent,
+    tables: u32,
+) -> Result<(), MapRefused>
+    requires may { MayMapBelow F.layout (H.view holder.old) extent level }
+    requires tables { tables ≤ length (H.view holder.old).path }
+    ensures stays { Stays H.space H.aside H.alone holder.old holder.new }
+    ensures ends { EndsAbove F.layout H.tells (H.alone holder.old) (linked_count (H.view holder.old) (H.aside holder.old))
+        (H.view holder.old) (H.view holder.new) extent level tables result }
+{
+    let mapped = map_below::<F, H>(holder, level, extent);
+    climb::<F, H>(holder, tables);
+    mapped
+}
+
+/// Leaves so many tables: a page of the extent is mapped, this one first.
+#[inline(never)]
+fn leave_occupied<F: Format, H: Holder<F>>(holder: &mut H, page: u64, tables: u32) -> MapRefused
+    requires page { page < input_pages F.layout }
+    requires tables { tables ≤ length (H.view holder.old).path }
+    ensures stays { Stays H.space H.aside H.alone holder.old holder.new }
+    ensures left { Climbs (H.view holder.old) tables (H.view holder.new) }
+    ensures at { result ≡ Occupied (byte_at F.layout page) }
+{
+    climb::<F, H>(holder, tables);
+    MapRefused::Occupied {
+        address: byte_of::<F>(page),
+    }
+}
+
+/// The same from where the way down to the extent ended: a block that it met there maps the first page.
 #[inline(always)]
 fn map_from<F: Format, H: Holder<F>>(
     holder: &mut H,
     stop: Stop,
     extent: Extent,
     log2: u32,
+    tables: u32,
 ) -> Result<(), MapRefused>
     requires may { MayMapBelow F.layout (H.view holder.old) extent stop.level }
     requires leaf { stop.met ≡ Leaf → IsLowest F.layout (H.view holder.old) extent.first extent.end extent.first }
     requires size { log2 ≡ extents.first_size F.layout extent }
     requires small { log2 < 64 }
+    requires tables { tables ≤ length (H.view holder.old).path }
     ensures stays { Stays H.space H.aside H.alone holder.old holder.new }
-    ensures ends { EndsBelow F.layout H.tells (H.alone holder.old) (linked_count (H.view holder.old) (H.aside holder.old))
-        (H.view holder.old) (H.view holder.new) extent stop.level result }
+    ensures ends { EndsAbove F.layout H.tells (H.alone holder.old) (linked_count (H.view holder.old) (H.aside holder.old))
+        (H.view holder.old) (H.view holder.new) extent stop.level tables result }
 {
     match stop.met {
-        Met::Table => map_at::<F, H>(holder, stop.level, extent, log2),
-        Met::Empty => map_below::<F, H>(holder, stop.level, extent),
-        Met::Leaf => Err(MapRefused::Occupied {
-            address: byte_of::<F>(extent.first),
-        }),
+        Met::Table => {
+            let mapped = map_at::<F, H>(holder, stop.level, extent, log2);
+            climb::<F, H>(holder, tables);
+            mapped
+        }
+        Met::Empty => map_absent::<F, H>(holder, stop.level, extent, tables),
+        Met::Leaf => Err(leave_occupied::<F, H>(holder, extent.first, tables)),
     }
 }
 
@@ -259,9 +305,7 @@ fn map_extent<F: Format, H: Holder<F>>(
         extent.end,
         whole,
     );
-    let mapped = map_from::<F, H>(holder, stop, extent, log2);
-    climb::<F, H>(holder, root - stop.level + 1);
-    mapped
+    map_from::<F, H>(holder, stop, extent, log2, root - stop.level + 1)
 }
 
 /// Maps the `len` bytes from input address `va` onto those from output address `pa`. The book gets the blocks
