@@ -158,13 +158,7 @@ fn map_entry<F: Format, H: Holder<F>>(
     }
     // what the purse tells of the account of frames is part of the answer
     let _held = holder.purse();
-    put_entry::<F, H>(
-        holder,
-        level,
-        extent,
-        extent.block(log2),
-        under.has_tables(),
-    );
+    put_entry::<F, H>(holder, level, extent, log2, under.has_tables());
     Ok(())
 }
 

@@ -1,9 +1,7 @@
-use Rattle.std.proofs.Common.{refl, sym, ◌∙◌, subst}
+use Rattle.std.proofs.Common.{refl, sym, ◌∙◌}
 use Rattle.std.proofs.lemmas.Bool.{false≢true}
-use Rattle.pt_model.specs.declared.block.Block.{Block}
 use Rattle.pt_walk.specs.Walks.{IsFree}
 use Rattle.pt_walk.proofs.Ranges.{under_free, under_mapped, under_nothing}
-use Rattle.pt_map.specs.Filled.{MayStoreRun, StoresRun}
 use Rattle.pt_map.proofs.MapFromTable.{occupied_below}
 use Rattle.pt_map.proofs.OneBlock.{block_end, block_mapped, block_may, block_none, block_way}
 use Rattle.pt_map.proofs.request.map_entry.Given.{Over}
@@ -33,8 +31,7 @@ put_entry-requires-clause-none g c = λ none.
 pub put_entry-requires-clause-may : goal.put_entry-requires-clause-may
 put_entry-requires-clause-may g c = λ z unlinks.
     let first = c.first_at-under.ensures in
-    subst (λ (b : Block). MayStoreRun g.F.Format.layout z 1 b c.args.level) (sym c.block.ensures)
-    (block_may g.met.F.Format.lawful_layout c.requires.may c.requires.block first.walked first.path (free g (goal.at.put_entry-requires-clause-may g c).In_default) unlinks)
+    block_may g.met.F.Format.lawful_layout c.requires.may c.requires.block first.walked first.path (free g (goal.at.put_entry-requires-clause-may g c).In_default) unlinks
 
 pub returns-in-Mapped-clause-ends : goal.returns-in-Mapped-clause-ends
 returns-in-Mapped-clause-ends g c =
@@ -46,5 +43,4 @@ pub returns-clause-ends : goal.returns-clause-ends
 returns-clause-ends g c =
     let first = c.first_at-under.ensures in
     block_mapped g.met.F.Format.lawful_layout c.requires.may c.requires.block first.walked first.path (free g (goal.at.returns-clause-ends g c).In_default) c.put_entry.ensures.puts.unlinks
-    first.stays.still_alone first.stays.same_aside c.purse-held.ensures.few
-    (subst (λ (b : Block). StoresRun g.F.Format.layout g.H.Holder.tells c.put_entry.ensures.puts.between (g.H.Holder.view c.put_entry.new.holder) 1 b) c.block.ensures c.put_entry.ensures.puts.stored)
+    first.stays.still_alone first.stays.same_aside c.purse-held.ensures.few c.put_entry.ensures.puts.stored
