@@ -1,5 +1,5 @@
 -- A map from its start to its end: what its steps show of its answer.
-use Rattle.std.proofs.Common.{◌≡◌, ℕ, ◌+◌, ◌-◌, ◌≤◌, arith, List, [], ◌++◌, refl, ap, sym, subst, ◌∙◌}
+use Rattle.std.proofs.Common.{◌≡◌, ℕ, ◌+◌, ◌-◌, List, [], ◌++◌, refl, ap, sym, subst, ◌∙◌}
 use Rattle.std.specs.Prelude.{length, Result, Ok, Err}
 use Rattle.pt_model.specs.declared.block.Block.{Block}
 use Rattle.pt_model.specs.declared.block.Prot.{Prot}
@@ -21,11 +21,10 @@ use Rattle.pt_map.proofs.MapFromTable.{refused_walked, linked_same}
 use Rattle.pt_map.specs.declared.refused.MapRefused.TheVariants as refused
 use Rattle.pt_map.proofs.MapResults as results
 
--- the path is long enough to be left in the end
-pub left_path : {f : Layout} (good : IsLayout f) {tells alone : Type 0} {v u d : View} {x : Extent} {root level : ℕ} (alone_d : Type 0) (linked : ℕ) (w : View) (h : Reached f tells alone v u d x root level) (r : Result (Unit {0}) MapRefused) →
-    EndsBelow f tells alone_d linked d w x level r → root - level + 1 ≤ length w.path
-left_path good alone_d linked w h (Ok t) m = let long = path_long good h in omega (arith, long, ap length m.path)
-left_path good alone_d linked w h (Err e) m = let long = path_long good h in omega (arith, long, ap length m.stays.path)
+-- the path stays
+pub ends_path : (f : Layout) (tells alone : Type 0) (linked : ℕ) (v w : View) (x : Extent) (level : ℕ) (r : Result (Unit {0}) MapRefused) → EndsBelow f tells alone linked v w x level r → w.path ≡ v.path
+ends_path f tells alone linked v w x level (Ok t) m = m.path
+ends_path f tells alone linked v w x level (Err e) m = m.stays.path
 
 -- The extent was mapped from the lowest table over it or refused, and the way was left.
 pub record Done (f : Layout) (tells alone alone_d : Type 0) (v u d w z : View) (x : Extent) (root level linked : ℕ) (r : Result (Unit {0}) MapRefused) : Type 0 where

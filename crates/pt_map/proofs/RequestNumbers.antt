@@ -73,34 +73,40 @@ module _ {f : Layout} (good : IsLayout f) (va pa len : ℕ) (whole_va : is_whole
         let at = spans.0 in let long = spans.1 in
         and_from (nat_le book.first range.first) _ (le-leb book.first range.first (omega arith)) (le-leb (range.first + range.count) (span_end book) (omega arith))
 
-    pub past_output : 2 ^ f.output < pa + len → IsRefusedByNumbers f first count va pa len refused.OutputRange
+    -- so many bytes end in the format's output exactly where their pages do
+    bytes_are : (pa + len ≡ (pa / 2 ^ f.granule + range.count) * 2 ^ f.granule) × (2 ^ f.output ≡ output_pages f * 2 ^ f.granule)
+    bytes_are =
+        let bits : f.output - f.granule + f.granule ≡ f.output = omega (arith, good.output_low, good.granule_high) in
+        let long : range.count ≡ len / 2 ^ f.granule = (found_range f va len range found).1 in
+        let b : len ≡ range.count * 2 ^ f.granule = whole_times f len whole_len ∙ ap (λ n. n * 2 ^ f.granule) (sym long) in
+        let a = whole_times f pa whole_pa in
+        (omega arith, ap (λ k. 2 ^ k) (sym bits) ∙ pow-add 2 (f.output - f.granule) f.granule)
+
+    bytes_within : pa / 2 ^ f.granule + range.count ≤ output_pages f → pa + len ≤ 2 ^ f.output
+    bytes_within within =
+        let more = mul-le (pa / 2 ^ f.granule + range.count) (2 ^ f.granule) (output_pages f) (2 ^ f.granule) within (omega arith) in
+        omega (arith, bytes_are.0, bytes_are.1, more)
+
+    bytes_past : output_pages f < pa / 2 ^ f.granule + range.count → 2 ^ f.output < pa + len
+    bytes_past past =
+        let more = mul-le (output_pages f + 1) (2 ^ f.granule) (pa / 2 ^ f.granule + range.count) (2 ^ f.granule) (omega arith) (omega arith) in
+        omega (arith, pow_pos f.granule, bytes_are.0, bytes_are.1, more)
+
+    pub past_output : output_pages f < pa / 2 ^ f.granule + range.count → IsRefusedByNumbers f first count va pa len refused.OutputRange
     past_output past = record {
       of_numbers = tt;
       refusal = λ book spans.
           let yes = inside book spans in
-          let over : nat_lt (2 ^ f.output) (pa + len) ≡ true = lt-ltb (2 ^ f.output) (pa + len) past in
+          let over : nat_lt (2 ^ f.output) (pa + len) ≡ true = lt-ltb (2 ^ f.output) (pa + len) (bytes_past past) in
           left_to_test book ∙ rw (yes, over) refl;
     }
 
-    -- so many output pages, where so many bytes end in the format's
-    pages_within : pa + len ≤ 2 ^ f.output → pa / 2 ^ f.granule + len / 2 ^ f.granule ≤ output_pages f
-    pages_within within =
-        let bits : f.output - f.granule + f.granule ≡ f.output = omega (arith, good.output_low, good.granule_high) in
-        let bytes : 2 ^ f.output ≡ 2 ^ (f.output - f.granule) * 2 ^ f.granule = ap (λ k. 2 ^ k) (sym bits) ∙ pow-add 2 (f.output - f.granule) f.granule in
-        let a = whole_times f pa whole_pa in let b = whole_times f len whole_len in
-        let h : (pa / 2 ^ f.granule + len / 2 ^ f.granule) * 2 ^ f.granule ≤ 2 ^ (f.output - f.granule) * 2 ^ f.granule = omega (arith, a, b, bytes) in
-        elim (cases_lt (output_pages f) (pa / 2 ^ f.granule + len / 2 ^ f.granule)) [
-          | inl more ↦ absurd (omega (arith, pow_pos f.granule, h, mul-le (2 ^ (f.output - f.granule) + 1) (2 ^ f.granule) (pa / 2 ^ f.granule + len / 2 ^ f.granule) (2 ^ f.granule) (omega arith) (omega arith)))
-          | inr fine ↦ fine
-        ]
-
-    pub requested : (prot : Prot) (out : ℕ) → out ≡ pa / 2 ^ f.granule → IsTrue (f.states prot) → first + count ≤ input_pages f → pa + len ≤ 2 ^ f.output →
+    pub requested : (prot : Prot) (out : ℕ) → out ≡ pa / 2 ^ f.granule → IsTrue (f.states prot) → first + count ≤ input_pages f → out + range.count ≤ output_pages f →
         IsRequested f first count va pa len prot (record { first = range.first; end = range.first + range.count; out = out; prot = prot })
     requested prot out is stated in_space within =
         let r = found_range f va len range found in
         let b = whole_times f len whole_len in
         let long : range.count ≡ len / 2 ^ f.granule = r.1 in
-        let pages = pages_within within in
         let any : 0 < range.count = elim (cases_lt 0 range.count) [ inl more ↦ more | inr none ↦ absurd (let z : len / 2 ^ f.granule ≡ 0 = omega arith in let y : len / 2 ^ f.granule * 2 ^ f.granule ≡ 0 = ap (λ n. n * 2 ^ f.granule) z ∙ omega arith in omega arith) ] in
         record {
           inside = record {
@@ -111,6 +117,6 @@ module _ {f : Layout} (good : IsLayout f) (va pa len : ℕ) (whole_va : is_whole
           is = λ i. record { first = r.0 i; end = r.0 i + long i; out = is i; prot = prot };
           refusal = λ book spans.
               let yes = inside book spans in
-              let under : nat_lt (2 ^ f.output) (pa + len) ≡ false = le-ltb (2 ^ f.output) (pa + len) within in
+              let under : nat_lt (2 ^ f.output) (pa + len) ≡ false = le-ltb (2 ^ f.output) (pa + len) (bytes_within (omega arith)) in
               left_to_test book ∙ rw (yes, under) refl;
         }

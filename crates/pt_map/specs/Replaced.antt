@@ -9,7 +9,9 @@ use Rattle.pt_tile.specs.declared.extent.Extent.{Extent}
 use Rattle.pt_view.specs.declared.view.View.{View}
 use Rattle.pt_sweep.specs.Empties.{Unlinks}
 use Rattle.pt_sweep.specs.EmptyRanges.{IsEmptyRange}
+use Rattle.pt_tile.specs.Extents.{tiles}
 use Rattle.pt_map.specs.Stands.{IsExtentAt}
+use Rattle.pt_map.specs.Filled.{MayStoreRun, StoresRun}
 
 -- whether a table begins in a block, and is of a level below that of the table in which the block stands
 abbrev pub is_table_in : Layout → Position → Block → Bool
@@ -35,3 +37,13 @@ pub record MayMakeWay (f : Layout) (v : View) (x : Extent) (level : ℕ) : Type 
 -- the tables that blocks take the place of were unlinked
 abbrev pub UnlinksReplaced : Layout → (tells alone : Type 0) → List Block → (v w : View) → Type 0
 UnlinksReplaced f tells alone blocks v w = Unlinks f tells alone (is_replaced f blocks) v w
+
+-- the tables that an extent's block takes the place of were unlinked, and the block's word was stored then
+pub record PutsBlock (f : Layout) (tells alone : Type 0) (v w : View) (x : Extent) (b : Block) : Type 0 where
+  pub between : View
+  pub unlinks : UnlinksReplaced f tells alone (tiles f x) v between
+  pub stored : StoresRun f tells between w 1 b
+
+-- once no table stands where an extent's block goes, the block may be stored
+abbrev pub MayPutBlock : Layout → (tells alone : Type 0) → View → Extent → Block → (level : ℕ) → Type 0
+MayPutBlock f tells alone v x b level = (w : View) → UnlinksReplaced f tells alone (tiles f x) v w → MayStoreRun f w 1 b level

@@ -16,7 +16,7 @@ use Rattle.pt_view.specs.declared.view.Change.TheVariants.{Written}
 use Rattle.pt_view.specs.Lists.{IsIn}
 use Rattle.pt_view.specs.Pieces.{add_pieces, all_pieces}
 use Rattle.pt_view.specs.Views.{IsAtRest, SameRange, book_of}
-use Rattle.pt_walk.specs.Walks.{IsClear, IsFree, IsLowest, OwnsAll, Rests}
+use Rattle.pt_walk.specs.Walks.{Climbs, IsClear, IsFree, IsLowest, OwnsAll, Rests}
 use Rattle.pt_sweep.specs.Draws.{KeepsBook, SamePlace}
 use Rattle.pt_sweep.specs.Sweeps.{IsBookTable}
 use Rattle.pt_map.specs.declared.refused.MapRefused.{MapRefused}
@@ -170,3 +170,9 @@ pub record RefusedBelow (f : Layout) (tells alone : Type 0) (linked : ℕ) (v w 
 abbrev pub EndsBelow : Layout → (tells alone : Type 0) → (linked : ℕ) → (v w : View) → Extent → (level : ℕ) → Result (Unit {0}) MapRefused → Type 0
 EndsBelow f tells alone linked v w x level (Ok done) = MappedBelow f tells alone linked v w x level
 EndsBelow f tells alone linked v w x level (Err e) = RefusedBelow f tells alone linked v w x level e
+
+-- an extent is mapped or refused from the path's last table, of this level, and so many tables are left then
+pub record EndsAbove (f : Layout) (tells alone : Type 0) (linked : ℕ) (v w : View) (x : Extent) (level tables : ℕ) (r : Result (Unit {0}) MapRefused) : Type 0 where
+  pub between : View
+  pub ends : EndsBelow f tells alone linked v between x level r
+  pub left : Climbs between tables w

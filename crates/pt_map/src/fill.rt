@@ -128,6 +128,7 @@ pub(crate) fn fill_run<F: Format, H: Holder<F>>(
 }
 
 /// Stores the word of a block of one entry in the path's last table, of this level.
+#[inline(always)]
 pub(crate) fn write_entry<F: Format, H: Holder<F>>(holder: &mut H, level: u32, block: Block)
     requires may { MayStoreRun F.layout (H.view holder.old) 1 block level }
     requires one { block.log2 ≡ F.layout.index * level }

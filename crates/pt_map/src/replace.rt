@@ -1,13 +1,15 @@
 //! The unlinking of the tables that blocks of an extent take the place of: no page of it is mapped, but tables may stand
 //! where its blocks go.
 
-ghost use Rattle.std.specs.Prelude.{◌≡◌, false};
+ghost use Rattle.std.specs.Prelude.{◌≡◌, ◌*◌, false};
+ghost use Rattle.pt_tile.specs.Extents as extents;
 ghost use Rattle.pt_tile.specs.Extents.{IsFirstTo, tiles, up_to};
 ghost use Rattle.pt_view.specs.Views.{Stays};
 ghost use Rattle.pt_map.specs.Stands.{IsEntryExtent};
-ghost use Rattle.pt_map.specs.Replaced.{HasNoneReplaced, MayMakeWay, UnlinksReplaced};
+ghost use Rattle.pt_map.specs.Replaced.{HasNoneReplaced, MayMakeWay, MayPutBlock, PutsBlock, UnlinksReplaced};
 
 use crate::entry::under_entry;
+use crate::fill::write_entry;
 use pt_format::Format;
 use pt_sweep::clear_tables;
 use pt_tile::Extent;
@@ -31,6 +33,43 @@ pub(crate) fn make_way<F: Format, H: Holder<F>>(
     if tables {
         unlink_replaced::<F, H>(holder, level, extent);
     }
+}
+
+/// Stores the word of an extent's one block, of one entry, in the path's last table, of this level. Where `tables` stand
+/// under the entry they are unlinked first.
+#[inline(always)]
+pub(crate) fn put_entry<F: Format, H: Holder<F>>(
+    holder: &mut H,
+    level: u32,
+    extent: Extent,
+    log2: u32,
+    tables: bool,
+)
+    requires way { MayMakeWay F.layout (H.view holder.old) extent level }
+    requires none { tables ≡ false → HasNoneReplaced F.layout (H.view holder.old) (tiles F.layout extent) }
+    requires may { MayPutBlock F.layout H.tells (H.alone holder.old) (H.view holder.old) extent (extents.block log2 extent) level }
+    requires one { log2 ≡ F.layout.index * level }
+    ensures stays { Stays H.space H.aside H.alone holder.old holder.new }
+    ensures puts { PutsBlock F.layout H.tells (H.alone holder.old) (H.view holder.old) (H.view holder.new) extent (extents.block log2 extent) }
+{
+    if tables {
+        replace_entry::<F, H>(holder, level, extent, log2);
+    } else {
+        write_entry::<F, H>(holder, level, extent.block(log2));
+    }
+}
+
+/// The same where tables stand there.
+#[inline(never)]
+fn replace_entry<F: Format, H: Holder<F>>(holder: &mut H, level: u32, extent: Extent, log2: u32)
+    requires way { MayMakeWay F.layout (H.view holder.old) extent level }
+    requires may { MayPutBlock F.layout H.tells (H.alone holder.old) (H.view holder.old) extent (extents.block log2 extent) level }
+    requires one { log2 ≡ F.layout.index * level }
+    ensures stays { Stays H.space H.aside H.alone holder.old holder.new }
+    ensures puts { PutsBlock F.layout H.tells (H.alone holder.old) (H.view holder.old) (H.view holder.new) extent (extents.block log2 extent) }
+{
+    unlink_replaced::<F, H>(holder, level, extent);
+    write_entry::<F, H>(holder, level, extent.block(log2));
 }
 
 /// Unlinks the tables that blocks of an extent take the place of, from the path's last table, of this level. Their frames

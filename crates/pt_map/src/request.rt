@@ -1,25 +1,28 @@
 //! The map of a range.
 
-ghost use Rattle.std.specs.Prelude.{◌≡◌, ◌+◌, ◌*◌, ◌/◌, ◌^◌, ◌<◌, ◌≤◌, false, None, IsTrue, IfOk, IfErr};
+ghost use Rattle.std.specs.Prelude.{◌≡◌, ◌+◌, ◌*◌, ◌/◌, ◌^◌, ◌<◌, ◌≤◌, false, None, IsTrue, IfOk, IfErr, length};
 ghost use Rattle.pt_model.specs.Book.{map_refusal};
 ghost use Rattle.pt_model.specs.Layout.{input_pages};
+ghost use Rattle.pt_model.specs.Pages.{byte_at};
 ghost use Rattle.pt_tile.specs.Extents as extents;
 ghost use Rattle.pt_view.specs.Views.{Stays, linked_count};
-ghost use Rattle.pt_walk.specs.Walks.{Rests};
+ghost use Rattle.pt_walk.specs.declared.range.Met.TheVariants.{Leaf};
+ghost use Rattle.pt_walk.specs.Walks.{Climbs, IsLowest, Rests};
+ghost use Rattle.pt_map.specs.declared.refused.MapRefused.TheVariants.{Occupied};
 ghost use Rattle.pt_map.specs.Answers.{Accounts, Answers, extent_at};
 ghost use Rattle.pt_map.specs.Stands.{IsBlockOf, IsRunOf};
-ghost use Rattle.pt_map.specs.Requests.{EndsBelow, Gathers, IsRefusedByNumbers, IsRequested, MayMap, MayMapBelow, occupied};
+ghost use Rattle.pt_map.specs.Requests.{EndsAbove, EndsBelow, Gathers, IsRefusedByNumbers, IsRequested, MayMap, MayMapBelow, occupied};
 
 use crate::beyond::map_beyond;
-use crate::fill::{fill, fill_run, write_entry};
+use crate::fill::{fill, fill_run};
 use crate::refused::MapRefused;
-use crate::replace::make_way;
+use crate::replace::{make_way, put_entry};
 use crate::survey::{Found, survey};
 use pt_format::{Format, Prot, Span, byte_of, is_whole, range_of};
 use pt_sweep::draw;
 use pt_tile::Extent;
 use pt_view::Holder;
-use pt_walk::{Under, climb, descend, first_at, look_below, spine_end};
+use pt_walk::{Met, Stop, Under, climb, descend, first_at, look_below, spine_end};
 
 /// The extent that a request is, where its range may be mapped in a span by its numbers alone.
 fn extent_in<F: Format>(
@@ -44,14 +47,14 @@ fn extent_in<F: Format>(
     if range.first < span.first || end > span.first + span.count {
         return Err(MapRefused::OutsideLease);
     }
-    let outputs = 1 << F::OUTPUT;
-    if len > outputs || pa > outputs - len {
+    let out = pa >> F::GRANULE;
+    if out + range.count > 1 << (F::OUTPUT - F::GRANULE) {
         return Err(MapRefused::OutputRange);
     }
     Ok(Extent {
         first: range.first,
         end,
-        out: pa >> F::GRANULE,
+        out,
         prot,
     })
 }
@@ -196,8 +199,7 @@ fn map_entry<F: Format, H: Holder<F>>(
     }
     // what the purse tells of the account of frames is part of the answer
     let _held = holder.purse();
-    make_way::<F, H>(holder, level, extent, under.has_tables());
-    write_entry::<F, H>(holder, level, extent.block(log2));
+    put_entry::<F, H>(holder, level, extent, log2, under.has_tables());
     Ok(())
 }
 
@@ -247,6 +249,69 @@ fn map_at<F: Format, H: Holder<F>>(
     }
 }
 
+/// The same where a table is absent, and so many tables are left then.
+#[inline(never)]
+fn map_absent<F: Format, H: Holder<F>>(
+    holder: &mut H,
+    level: u32,
+    extent: Extent,
+    tables: u32,
+) -> Result<(), MapRefused>
+    requires may { MayMapBelow F.layout (H.view holder.old) extent level }
+    requires tables { tables ≤ length (H.view holder.old).path }
+    ensures stays { Stays H.space H.aside H.alone holder.old holder.new }
+    ensures ends { EndsAbove F.layout H.tells (H.alone holder.old) (linked_count (H.view holder.old) (H.aside holder.old))
+        (H.view holder.old) (H.view holder.new) extent level tables result }
+{
+    let mapped = map_below::<F, H>(holder, level, extent);
+    climb::<F, H>(holder, tables);
+    mapped
+}
+
+/// Leaves so many tables: a page of the extent is mapped, this one first.
+#[inline(never)]
+fn leave_occupied<F: Format, H: Holder<F>>(holder: &mut H, page: u64, tables: u32) -> MapRefused
+    requires page { page < input_pages F.layout }
+    requires tables { tables ≤ length (H.view holder.old).path }
+    ensures stays { Stays H.space H.aside H.alone holder.old holder.new }
+    ensures left { Climbs (H.view holder.old) tables (H.view holder.new) }
+    ensures at { result ≡ Occupied (byte_at F.layout page) }
+{
+    climb::<F, H>(holder, tables);
+    MapRefused::Occupied {
+        address: byte_of::<F>(page),
+    }
+}
+
+/// The same from where the way down to the extent ended: a block that it met there maps the first page.
+#[inline(always)]
+fn map_from<F: Format, H: Holder<F>>(
+    holder: &mut H,
+    stop: Stop,
+    extent: Extent,
+    log2: u32,
+    tables: u32,
+) -> Result<(), MapRefused>
+    requires may { MayMapBelow F.layout (H.view holder.old) extent stop.level }
+    requires leaf { stop.met ≡ Leaf → IsLowest F.layout (H.view holder.old) extent.first extent.end extent.first }
+    requires size { log2 ≡ extents.first_size F.layout extent }
+    requires small { log2 < 64 }
+    requires tables { tables ≤ length (H.view holder.old).path }
+    ensures stays { Stays H.space H.aside H.alone holder.old holder.new }
+    ensures ends { EndsAbove F.layout H.tells (H.alone holder.old) (linked_count (H.view holder.old) (H.aside holder.old))
+        (H.view holder.old) (H.view holder.new) extent stop.level tables result }
+{
+    match stop.met {
+        Met::Table => {
+            let mapped = map_at::<F, H>(holder, stop.level, extent, log2);
+            climb::<F, H>(holder, tables);
+            mapped
+        }
+        Met::Empty => map_absent::<F, H>(holder, stop.level, extent, tables),
+        Met::Leaf => Err(leave_occupied::<F, H>(holder, extent.first, tables)),
+    }
+}
+
 /// Maps an extent of the span. `log2` is the size of its first block; a `whole` extent is that block alone, of one entry.
 #[inline(always)]
 fn map_extent<F: Format, H: Holder<F>>(
@@ -269,7 +334,7 @@ fn map_extent<F: Format, H: Holder<F>>(
         climb::<F, H>(holder, 1);
         return mapped;
     }
-    let level = descend::<F, H>(
+    let stop = descend::<F, H>(
         holder,
         root,
         log2 / F::INDEX,
@@ -277,9 +342,7 @@ fn map_extent<F: Format, H: Holder<F>>(
         extent.end,
         whole,
     );
-    let mapped = map_at::<F, H>(holder, level, extent, log2);
-    climb::<F, H>(holder, root - level + 1);
-    mapped
+    map_from::<F, H>(holder, stop, extent, log2, root - stop.level + 1)
 }
 
 /// Maps the `len` bytes from input address `va` onto those from output address `pa`. The book gets the blocks

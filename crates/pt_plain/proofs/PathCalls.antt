@@ -25,8 +25,8 @@ module _ {f : Layout} {o : Fields} (own : IsOwner f o) where
   abbrev pub Left : Type 0
   Left = Does f o (record o { level = o.level + 1 }) (λ v w. w ≡ left v)
 
-  abbrev pub RootedAt : (word level : ℕ) → Type 0
-  RootedAt word level = Does f o (record o { path = slice_set o.path level (word / 8); level = level }) (λ v w. Rooted f ⊥ (Unit {0}) v level w)
+  abbrev pub RootedAt : (frame level : ℕ) → Type 0
+  RootedAt frame level = Does f o (record o { path = slice_set o.path level frame; level = level }) (λ v w. Rooted f ⊥ (Unit {0}) v level w)
 
 -- Leave.
 module _ {f : Layout} {o : Fields} (own : IsOwner f o) (some : 0 < length (whole_view f o).path) where
@@ -120,8 +120,8 @@ module _ {f : Layout} (laws : Laws f) {o : Fields} (own : IsOwner f o) (none : (
       (noted_after own u r.busy (λ g lt some. some) (λ p h. (r.known p).1 (inr h)) (λ p h. inl h) refl)
       (λ v w. Rooted f ⊥ (Unit {0}) v (root_level o.words) w) (λ a. rooted_on a (whole own) r)
 
-pub root : {f : Layout} (laws : Laws f) {o : Fields} (own : IsOwner f o) → (span_view f o).path ≡ [] → (word level : ℕ) → word ≡ slice_index o.words 0 → level ≡ word % 8 →
-    RootedAt own word level
-root {f} laws {o} own none word level is level_is =
-    subst (λ (t : ℕ × ℕ). Does f o (record o { path = slice_set o.path t.1 (t.0 / 8); level = t.1 }) (λ v w. Rooted f ⊥ (Unit {0}) v t.1 w))
-    (λ i. (sym is i, sym (level_is ∙ ap (λ (z : ℕ). z % 8) is) i)) (does_root laws own (given own (λ v. v.path ≡ []) none))
+pub root : {f : Layout} (laws : Laws f) {o : Fields} (own : IsOwner f o) → (span_view f o).path ≡ [] → (word frame level : ℕ) → word ≡ slice_index o.words 0 → frame ≡ word / 8 → level ≡ word % 8 →
+    RootedAt own frame level
+root {f} laws {o} own none word frame level is frame_is level_is =
+    subst (λ (t : ℕ × ℕ). Does f o (record o { path = slice_set o.path t.1 t.0; level = t.1 }) (λ v w. Rooted f ⊥ (Unit {0}) v t.1 w))
+    (λ i. (sym (frame_is ∙ ap (λ (z : ℕ). z / 8) is) i, sym (level_is ∙ ap (λ (z : ℕ). z % 8) is) i)) (does_root laws own (given own (λ v. v.path ≡ []) none))

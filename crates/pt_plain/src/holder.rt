@@ -5,8 +5,8 @@ ghost use Rattle.pt_view.specs.Calls.{IsFreed};
 
 use crate::plain::Plain;
 use crate::words::{
-    entry, frame_address, frame_named, held_word, is_zero_run, next_in, placed_word, root_level,
-    set_entry, set_root, set_run, set_tag, tag_of, taken_upto, zero_run,
+    entry, frame_address, frame_named, held_word, is_zero_run, next_in, placed_word, root_frame,
+    root_level, set_entry, set_root, set_run, set_tag, tag_of, taken_upto, zero_run,
 };
 use pt_format::Format;
 use pt_num::Span;
@@ -43,14 +43,16 @@ impl<F: Format> Holder<F> for Plain<F> {
 
     ghost alone = { λ p. Unit {0} };
 
+    #[inline(always)]
     fn root(&mut self) -> u32 {
         let root = self.words[0];
         let level = root_level::<F>(root);
-        self.path[level as usize] = (root / 8) as u32;
+        self.path[level as usize] = root_frame(root);
         self.level = level;
         level
     }
 
+    #[inline(always)]
     fn enter(&mut self, number: u32) -> Seen {
         let level = self.level;
         let frame = self.path[level as usize];
@@ -71,6 +73,7 @@ impl<F: Format> Holder<F> for Plain<F> {
         is_zero_run::<F>(&self.words, self.frames, frame, first, count)
     }
 
+    #[inline(always)]
     fn leave(&mut self) {
         self.level += 1;
     }
@@ -131,6 +134,7 @@ impl<F: Format> Holder<F> for Plain<F> {
         Won::Yes
     }
 
+    #[inline(always)]
     fn write(&mut self, number: u32, word: u64) {
         let frame = self.path[self.level as usize];
         set_entry::<F>(&mut self.words, self.frames, frame, number, word);
@@ -149,6 +153,7 @@ impl<F: Format> Holder<F> for Plain<F> {
         );
     }
 
+    #[inline(always)]
     fn clear(&mut self, number: u32) {
         let frame = self.path[self.level as usize];
         set_entry::<F>(&mut self.words, self.frames, frame, number, 0);

@@ -1,6 +1,6 @@
 //! The words of a space: where they stand, and how a tag, a pointer and an entry are read and written.
 
-ghost use Rattle.std.specs.Prelude.{◌≡◌, ℕ, ◌+◌, ◌*◌, ◌%◌, ◌^◌, false, ◌<◌, ◌≤◌, IsTrue, length, Option, Some, None, slice_set};
+ghost use Rattle.std.specs.Prelude.{◌≡◌, ℕ, ◌+◌, ◌*◌, ◌/◌, ◌%◌, ◌^◌, false, ◌<◌, ◌≤◌, IsTrue, length, Option, Some, None, slice_set};
 ghost use Rattle.pt_model.specs.Words as words_are;
 ghost use Rattle.pt_model.specs.Words.{frame_limit, tag, entry_of};
 ghost use Rattle.pt_format.specs.Words.{IsTableAddress};
@@ -44,7 +44,15 @@ pub(crate) fn frame_named<F: Format>(address: u64) -> u32
     requires { IsTableAddress F.layout address }
     ensures { result ≡ words_are.frame_named F.layout address }
 {
-    ((address - FIRST_FRAME) >> F::GRANULE) as u32
+    (address - FIRST_FRAME) as u32 >> F::GRANULE
+}
+
+/// The frame that the root's word names.
+pub(crate) fn root_frame(root: u64) -> u32
+    requires { root < 2 ^ 32 }
+    ensures { result ≡ root / 8 }
+{
+    root as u32 / 8
 }
 
 /// The level that the root's word names. In a format that doesn't grow it is known without it.

@@ -12,7 +12,7 @@ ghost use Rattle.pt_sweep.specs.Unmaps.{ClearsEntry, UnmapsEntry};
 use pt_format::{Block, Format, Span};
 use pt_num::is_aligned;
 use pt_view::{Holder, Seen};
-use pt_walk::{block_of, climb, descend, entry_bits, entry_number, spine_end};
+use pt_walk::{Met, Stop, block_of, climb, descend, entry_bits, entry_number, spine_end};
 
 /// Whether a block begins before a range or ends behind it.
 pub(crate) fn reaches_out(block: Block, first: u64, end: u64) -> bool
@@ -73,6 +73,46 @@ fn clear_entry<F: Format, H: Holder<F>>(
     }
 }
 
+/// The same where the way down met an entry above the lowest one: it was zero when it was loaded.
+#[inline(never)]
+fn clear_above<F: Format, H: Holder<F>>(
+    holder: &mut H,
+    level: u32,
+    first: u64,
+    end: u64,
+) -> Option<u64>
+    requires range { IsOverRange F.layout (H.view holder.old) first end level }
+    requires one { end ≤ (first / pages_of_entry F.layout level + 1) * pages_of_entry F.layout level }
+    requires book { HasBook F.layout (H.view holder.old) }
+    requires clear { IsClear F.layout (H.view holder.old) first end level }
+    ensures stays { Stays H.space H.aside H.alone holder.old holder.new }
+    ensures clears { ClearsEntry F.layout H.tells (H.alone holder.old) first end level (H.view holder.old) (H.view holder.new) result }
+{
+    clear_entry::<F, H>(holder, level, first, end)
+}
+
+/// The same from where the way down to the range ended. A block that it met there has other pages too.
+#[inline(always)]
+fn clear_from<F: Format, H: Holder<F>>(
+    holder: &mut H,
+    stop: Stop,
+    first: u64,
+    end: u64,
+) -> Option<u64>
+    requires range { IsOverRange F.layout (H.view holder.old) first end stop.level }
+    requires one { end ≤ (first / pages_of_entry F.layout stop.level + 1) * pages_of_entry F.layout stop.level }
+    requires book { HasBook F.layout (H.view holder.old) }
+    requires clear { IsClear F.layout (H.view holder.old) first end stop.level }
+    ensures stays { Stays H.space H.aside H.alone holder.old holder.new }
+    ensures clears { ClearsEntry F.layout H.tells (H.alone holder.old) first end stop.level (H.view holder.old) (H.view holder.new) result }
+{
+    match stop.met {
+        Met::Table => clear_entry::<F, H>(holder, stop.level, first, end),
+        Met::Empty => clear_above::<F, H>(holder, stop.level, first, end),
+        Met::Leaf => None,
+    }
+}
+
 /// Takes a range under one entry of a table of level `lowest` away, where it has one block or none. Answers how many
 /// pages went; None where a table is under the entry, or a block has other pages too: nothing went then.
 #[inline(always)]
@@ -95,9 +135,9 @@ fn unmap_entry<F: Format, H: Holder<F>>(holder: &mut H, range: Span, lowest: u32
         holder.leave();
         return None;
     }
-    let level = descend::<F, H>(holder, root, lowest, range.first, end, true);
-    let pages = clear_entry::<F, H>(holder, level, range.first, end);
-    climb::<F, H>(holder, root - level + 1);
+    let stop = descend::<F, H>(holder, root, lowest, range.first, end, true);
+    let pages = clear_from::<F, H>(holder, stop, range.first, end);
+    climb::<F, H>(holder, root - stop.level + 1);
     pages
 }
 

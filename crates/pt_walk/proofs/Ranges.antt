@@ -1,5 +1,5 @@
 -- Ranges of pages under the path's last table: the pages of one entry, and the pieces that have one of them.
-use Rattle.std.proofs.Common.{◌≡◌, ◌⊎◌, ⊎_elim, ℕ, ◌+◌, ◌-◌, ◌*◌, ◌/◌, ◌%◌, ◌^◌, ◌<◌, ◌≤◌, List, [], ◌∷◌, ◌++◌, inl, inr, refl, ap, sym, ◌∙◌, subst, arith, append_assoc}
+use Rattle.std.proofs.Common.{◌≡◌, ◌⊎◌, ⊎_elim, ℕ, ◌+◌, ◌-◌, ◌*◌, ◌/◌, ◌%◌, ◌^◌, ◌<◌, ◌≤◌, List, [], ◌∷◌, ◌++◌, inl, inr, length, length-append, refl, ap, sym, ◌∙◌, subst, arith, append_assoc}
 use Rattle.std.specs.Prelude.{IsTrue, true, ◌&&◌, nat_le, nat_lt}
 use Rattle.std.proofs.lemmas.List.{append-nil}
 use Rattle.std.proofs.lemmas.Bool.{and_from, cases_lt, false≢true, le-leb, lt-ltb}
@@ -23,10 +23,12 @@ use Rattle.pt_view.specs.Loads.{IsInSpan, IsOver}
 use Rattle.pt_view.specs.Calls.{MeetsEntry, Went, entry_end, entry_first, is_under, lowest, pieces_at}
 use Rattle.pt_view.proofs.Entries.{entry_first_is, may_enter, over_page}
 use Rattle.pt_view.proofs.Loads.{IsLoad, load_leaf, load_none, table_high, table_over, table_path}
-use Rattle.pt_walk.specs.Walks.{FindsUnder, HasNoTable, IsClear, IsFree, IsGoing, IsLowest, IsOverRange, OwnsAll, OwnsOver, StopsAt, WentDown, mapped, nothing}
+use Rattle.pt_walk.specs.Walks.{FindsUnder, HasNoTable, IsClear, IsFree, IsGoing, IsLowest, IsOverRange, IsWayDown, OwnsAll, OwnsOver, StopsAt, WentDown}
+use Rattle.pt_walk.specs.declared.range.Met.TheVariants as met
 use Rattle.pt_walk.specs.declared.range.Under.{Under}
 use Rattle.pt_walk.specs.declared.range.Under.TheVariants.{Nothing, Tables, Mapped}
-use Rattle.pt_walk.proofs.Descent.{empty_none, entered_none, leaf_found}
+use Rattle.pt_walk.proofs.Descent.{empty_none, entered_none, leaf_found, owns_on}
+use Rattle.pt_view.proofs.Stays.{book_back}
 
 -- Ranges.
 
@@ -152,6 +154,16 @@ lowest_on {f} {first = first} {page = page} b h = record {
   free = free_on f first page b h.free;
 }
 
+-- where the word of a block was loaded, its first page is the lowest by the view after the load too
+pub lowest_after : {f : Layout} → IsLayout f → {tells alone : Type 0} {v : View} {first end level : ℕ} → IsOverRange f v first end level →
+    end ≤ (first / pages_of_entry f level + 1) * pages_of_entry f level → {seen : Seen} {w : View} → IsLoad f tells alone v first level seen w →
+    {word : ℕ} → seen ≡ Leaf word → OwnsAll f w → IsLowest f w first end first
+lowest_after {f} good {v = v} r one {w = w} l e owns =
+    let s = l.went.range in
+    let back : SameBook w v = book_back l.went.book in
+    let range : SameRange w v = record { frames = sym s.frames; levels = sym s.levels; first = sym s.first; count = sym s.count } in
+    lowest_on back (lowest_here good r one l e (owns_on f range back owns))
+
 pub clear_on : (f : Layout) {v w : View} (first end level : ℕ) → SameBook v w → IsClear f v first end level → IsClear f w first end level
 clear_on f first end level b clear = λ page low high x member has. clear page low high x (subst (λ (xs : List Piece). IsOneOf xs x) b.pieces member) has
 
@@ -228,36 +240,59 @@ down_more {f} {v = v} {page = page} {level = level} l e d =
       over = d.over;
     }
 
+-- The way goes on from where it is: it stays in its last table, or goes into the one under that table's entry.
+
+pub down_still : {f : Layout} {v u w : View} {page level lower : ℕ} → WentDown f v u page level lower → w.path ≡ u.path → WentDown f v w page level lower
+down_still d same = record {
+  nodes = d.nodes;
+  path = same ∙ d.path;
+  way = d.way;
+  so_many = d.so_many;
+  over = record { frame = d.over.frame; is = ap lowest same ∙ d.over.is };
+}
+
+way_longer : (f : Layout) (page level lower : ℕ) (nodes : List Node) (x : Node) → IsWayDown f page level nodes → length nodes + lower ≡ level →
+    x.position ≡ position_over f page (lower - 1) → IsWayDown f page level (nodes ++ x ∷ [])
+way_longer f page level lower [] x way many at = (at ∙ ap (λ (k : ℕ). position_over f page (k - 1)) (let same : lower ≡ level = omega arith in same), tt)
+way_longer f page level lower (y ∷ ys) x way many at = (way.0, way_longer f page (level - 1) lower ys x way.1 (omega arith) at)
+
+pub down_longer : {f : Layout} {tells alone : Type 0} {v u : View} {page level lower : ℕ} {seen : Seen} {w : View} → WentDown f v u page level lower → IsLoad f tells alone u page lower seen w →
+    seen ≡ Entered → WentDown f v w page level (lower - 1)
+down_longer {f} {v = v} {page = page} {level = level} {lower = lower} d l e =
+    let p = table_path l e in
+    let x : Node = record { frame = p.0; position = position_over f page (lower - 1) } in
+    record {
+      nodes = d.nodes ++ x ∷ [];
+      path = p.1 ∙ ap (λ (xs : List Node). xs ++ x ∷ []) d.path ∙ append_assoc v.path d.nodes (x ∷ []);
+      way = way_longer f page level lower d.nodes x d.way d.so_many refl;
+      so_many = let many = d.so_many in let high = table_high l e in let a = length-append d.nodes (x ∷ []) in omega arith;
+      over = table_over l e;
+    }
+
 -- the tables over a page, with one more below them
 
 pub owns_none : (f : Layout) (v : View) (page level : ℕ) → OwnsOver f v page level level
 owns_none f v page level = λ j low high. absurd (omega arith)
 
-pub owns_more : (f : Layout) {v w : View} (page low level : ℕ) → SameRange v w → SameBook v w → 0 < level →
-    IsAmong v.tables (position_over f page (level - 1)) ⊎ IsTrue (is_spine v.levels (position_over f page (level - 1))) →
-    OwnsOver f w page low (level - 1) → OwnsOver f v page low level
-owns_more f {v} page low level range book high here below = λ j from to. dite (ℕ_discrete j (level - 1))
-    (λ e. subst (λ (k : ℕ). IsAmong v.tables (position_over f page k) ⊎ IsTrue (is_spine v.levels (position_over f page k))) (sym e) here)
-    (λ ne. ⊎_elim (λ a. inl (subst (λ (ps : List Position). IsAmong ps (position_over f page j)) book.tables a))
-    (λ b. inr (subst (λ (n : ℕ). IsTrue (is_spine n (position_over f page j))) range.levels b)) (below j from (omega arith)))
+pub owns_lower : (f : Layout) {v w : View} (page low high : ℕ) → SameRange v w → SameBook v w → OwnsOver f v page low high →
+    IsAmong w.tables (position_over f page (low - 1)) ⊎ IsTrue (is_spine w.levels (position_over f page (low - 1))) → OwnsOver f v page (low - 1) high
+owns_lower f {v} page low high range book above here = λ j from to. dite (ℕ_discrete j (low - 1))
+    (λ e. subst (λ (k : ℕ). IsAmong v.tables (position_over f page k) ⊎ IsTrue (is_spine v.levels (position_over f page k))) (sym e)
+    (⊎_elim (λ a. inl (subst (λ (ps : List Position). IsAmong ps (position_over f page (low - 1))) book.tables a))
+    (λ b. inr (subst (λ (n : ℕ). IsTrue (is_spine n (position_over f page (low - 1)))) range.levels b)) here))
+    (λ ne. above j (omega arith) to)
 
 -- Where a way down stops, by what the load of the entry found there.
 module _ {f : Layout} {tells alone : Type 0} {v : View} {first level : ℕ} {seen : Seen} {w : View} (l : IsLoad f tells alone v first level seen w) (end lowest : ℕ) where
-  pub stops_here : (¬ (seen ≡ Entered)) → StopsAt f w first end lowest level
-  stops_here not = by_kind seen refl
-    where
-      by_kind : (s : Seen) → seen ≡ s → StopsAt f w first end lowest level
-      by_kind Empty e =
-          let h = load_none l e in
-          let x = h.vacant in
-          let b = l.went.book in
-          let r = l.went.range in
-          nothing (record {
-            no_piece = ap (λ xs. pieces_at f (position_over f first level) (entry_number f level first) xs) b.pieces ∙ x.no_piece;
-            no_table = λ q a. x.no_table q (subst (λ (ps : List Position). IsAmong ps q) b.tables a);
-            none_known = λ q a. x.none_known q ((h.known q).0 a);
-            no_spine = λ k low high. x.no_spine k (let s = r.levels in subst (λ (n : ℕ). starting_top n ≤ k) s low) (let t = b.top in omega arith);
-          })
-      by_kind (Leaf word) e =
-          let h = load_leaf l e in mapped h.piece (subst (λ (xs : List Piece). IsOneOf xs h.piece) (sym l.went.book.pieces) h.member) h.here
-      by_kind Entered e = absurd (not e)
+  pub stops_empty : seen ≡ Empty → StopsAt f w first end lowest level met.Empty
+  stops_empty e =
+      let h = load_none l e in
+      let x = h.vacant in
+      let b = l.went.book in
+      let r = l.went.range in
+      record {
+        no_piece = ap (λ xs. pieces_at f (position_over f first level) (entry_number f level first) xs) b.pieces ∙ x.no_piece;
+        no_table = λ q a. x.no_table q (subst (λ (ps : List Position). IsAmong ps q) b.tables a);
+        none_known = λ q a. x.none_known q ((h.known q).0 a);
+        no_spine = λ k low high. x.no_spine k (let s = r.levels in subst (λ (n : ℕ). starting_top n ≤ k) s low) (let t = b.top in omega arith);
+      }

@@ -9,6 +9,8 @@ use Rattle.pt_model.specs.Book.{translation}
 use Rattle.pt_format.specs.Words.{IsUnder, MayBeLeaf}
 use Rattle.pt_view.specs.declared.view.View.{View}
 use Rattle.pt_walk.specs.declared.path.Leaf.{Leaf}
+use Rattle.pt_walk.specs.declared.range.Met.{Met}
+use Rattle.pt_walk.specs.declared.range.Met.TheVariants as met
 use Rattle.pt_walk.specs.declared.range.Under.{Under}
 use Rattle.pt_walk.specs.declared.range.Under.TheVariants.{Nothing, Tables, Mapped}
 use Rattle.pt_view.specs.declared.view.Node.{Node}
@@ -18,7 +20,7 @@ use Rattle.pt_model.specs.Sets.{IsAmong}
 use Rattle.pt_view.specs.Pieces.{IsOneOf, IsUnderPiece, entry_number, level_of, table_of, word_of, words_of}
 use Rattle.pt_view.specs.Views.{IsAtRest, book_of}
 use Rattle.pt_view.specs.Loads.{IsInSpan, IsOver}
-use Rattle.pt_view.specs.Calls.{IsVacant, pieces_at}
+use Rattle.pt_view.specs.Calls.{IsVacant}
 
 -- the path is the root's table alone, and its level is at least that of the book's top
 abbrev pub IsRooted : View → (level : ℕ) → Type 0
@@ -169,11 +171,9 @@ abbrev pub OwnsOver : Layout → View → (page low high : ℕ) → Type 0
 OwnsOver f v page low high =
     (level : ℕ) → low ≤ level → level < high → IsAmong v.tables (position_over f page level) ⊎ IsTrue (is_spine v.levels (position_over f page level))
 
--- why a way down over a range stops in the path's last table, of this level: the level was the lowest one asked for,
--- the range isn't under one entry there, nothing is there, or the word of a block is
-pub data StopsAt (f : Layout) (v : View) (first end lowest level : ℕ) : Type 0 where
-  low_enough : level ≡ lowest → StopsAt f v first end lowest level
-  too_wide : (first / pages_of_entry f level + 1) * pages_of_entry f level < end → StopsAt f v first end lowest level
-  nothing : IsVacant f v (position_over f first level) (entry_number f level first) → StopsAt f v first end lowest level
-  mapped : (piece : Piece) → IsOneOf v.pieces piece → pieces_at f (position_over f first level) (entry_number f level first) (piece ∷ []) ≡ 1 →
-      StopsAt f v first end lowest level
+-- why a way down over a range stops in the path's last table, of this level: the level was the lowest one asked for or the
+-- range isn't under one entry there, nothing is at its entry, or the word of a block is, which has the range's first page
+abbrev pub StopsAt : Layout → View → (first end lowest level : ℕ) → Met → Type 0
+StopsAt f v first end lowest level met.Table = (level ≡ lowest) ⊎ ((first / pages_of_entry f level + 1) * pages_of_entry f level < end)
+StopsAt f v first end lowest level met.Empty = IsVacant f v (position_over f first level) (entry_number f level first)
+StopsAt f v first end lowest level met.Leaf = OwnsAll f v → IsLowest f v first end first

@@ -63,10 +63,27 @@ fn lies_under<F: Format>(level: u32, lowest: u32, first: u64, end: u64, whole: b
     end <= entry_end::<F>(level, first)
 }
 
+/// What a way down over a range met at its end, in the path's last table.
+#[derive(Clone, Copy, Debug, PartialEq, Eq)]
+pub enum Met {
+    /// The table of the lowest level asked for, or one in which the range isn't under one entry.
+    Table,
+    /// An entry over the range that was zero.
+    Empty,
+    /// An entry over the range with the word of a block.
+    Leaf,
+}
+
+/// Where a way down over a range ends: the level of the path's last table, and what it met there.
+#[derive(Clone, Copy, Debug, PartialEq, Eq)]
+pub struct Stop {
+    pub level: u32,
+    pub met: Met,
+}
+
 /// Goes down, from the path's last table, of this level, while the range lies under one of its entries,
-/// that names a table, and the level is above `lowest`. Answers the level of the table where it ends; it ends
-/// nowhere else. Where the caller knows that the range is `whole`, under one entry of a table of level
-/// `lowest`, that isn't tested.
+/// that names a table, and the level is above `lowest`. Answers where it ends; it ends nowhere else. Where the
+/// caller knows that the range is `whole`, under one entry of a table of level `lowest`, that isn't tested.
 pub fn descend<F: Format, H: Holder<F>>(
     holder: &mut H,
     level: u32,
@@ -74,26 +91,40 @@ pub fn descend<F: Format, H: Holder<F>>(
     first: u64,
     end: u64,
     whole: bool,
-) -> u32
+) -> Stop
     requires range { IsOverRange F.layout (H.view holder.old) first end level }
     requires lowest { lowest ≤ level }
     requires whole { IsTrue whole → end ≤ (first / pages_of_entry F.layout lowest + 1) * pages_of_entry F.layout lowest }
     ensures stays { Stays H.space H.aside H.alone holder.old holder.new }
     ensures walked { ByLoads H.tells (H.view holder.old) (H.view holder.new) }
-    ensures range { IsOverRange F.layout (H.view holder.new) first end result }
-    ensures down { WentDown F.layout (H.view holder.old) (H.view holder.new) first level result }
-    ensures lowest { lowest ≤ result }
-    ensures stops { StopsAt F.layout (H.view holder.new) first end lowest result }
-    ensures owned { H.alone holder.old → OwnsOver F.layout (H.view holder.old) first result level }
-    ensures clear { StaysClear F.layout (H.view holder.old) (H.view holder.new) first end level result }
+    ensures range { IsOverRange F.layout (H.view holder.new) first end result.level }
+    ensures down { WentDown F.layout (H.view holder.old) (H.view holder.new) first level result.level }
+    ensures lowest { lowest ≤ result.level }
+    ensures stops { StopsAt F.layout (H.view holder.new) first end lowest result.level result.met }
+    ensures owned { H.alone holder.old → OwnsOver F.layout (H.view holder.old) first result.level level }
+    ensures clear { StaysClear F.layout (H.view holder.old) (H.view holder.new) first end level result.level }
 {
-    if level > lowest && lies_under::<F>(level, lowest, first, end, whole) {
-        match holder.enter(entry_number::<F>(level, first)) {
-            Seen::Entered => descend::<F, H>(holder, level - 1, lowest, first, end, whole),
-            _ => level,
+    let mut at = level;
+    while at > lowest && lies_under::<F>(at, lowest, first, end, whole) {
+        match holder.enter(entry_number::<F>(at, first)) {
+            Seen::Empty => {
+                return Stop {
+                    level: at,
+                    met: Met::Empty,
+                };
+            }
+            Seen::Leaf(_) => {
+                return Stop {
+                    level: at,
+                    met: Met::Leaf,
+                };
+            }
+            Seen::Entered => at -= 1,
         }
-    } else {
-        level
+    }
+    Stop {
+        level: at,
+        met: Met::Table,
     }
 }
 

@@ -4,11 +4,14 @@ use Rattle.pt_view.proofs.Loads.{root_loads}
 use Rattle.pt_map.proofs.PastRoot.{input_few}
 use Rattle.pt_tile.proofs.FirstSizes.{size_small}
 use Rattle.pt_view.specs.Views.{linked_count}
-use Rattle.pt_map.proofs.MapFromRoot.{Begun, Reached, clear_here, fixed_reach, low_size, may_map, owns_root, range_root, to_table}
+use Rattle.pt_view.specs.declared.view.View.{View}
+use Rattle.pt_walk.specs.declared.range.Met.{Met}
+use Rattle.pt_walk.specs.Walks.{StopsAt}
+use Rattle.pt_map.proofs.MapFromRoot.{Begun, Reached, clear_here, fixed_reach, low_size, may_map, owns_root, path_long, range_root, to_table}
 use Rattle.pt_map.proofs.MapAnswers.{Done, accounts, answers, rests_after}
 use Rattle.pt_map.proofs.OneBlock.{block_end}
 use Rattle.pt_map.proofs.request.map_extent.Given.{Over}
-use Rattle.pt_map.proofs.request.map_extent.Goals.{else-GROWS-via-then-GROWS+else-extent-spine_end, else-GROWS-via-else-GROWS, After-INDEX, After-climb, After-climb-2, After-descend-level, After-map_at-mapped}
+use Rattle.pt_map.proofs.request.map_extent.Goals.{else-GROWS-via-then-GROWS+else-extent-spine_end, else-GROWS-via-else-GROWS, After-INDEX, After-climb, After-map_from, After-descend-stop}
 use Rattle.pt_map.proofs.MapFromTable.{linked_walked}
 use Rattle.pt_map.proofs.BeyondAnswers.{accounts_beyond, answers_beyond, may_beyond, rests_beyond}
 use Rattle.pt_map.proofs.request.map_extent.Goals as goal
@@ -29,60 +32,74 @@ begun g c = record {
 step_over : (log2 index size width : ℕ) → log2 ≡ size → index ≡ width → log2 / index ≡ size / width
 step_over log2 index size width a b = λ i. a i / b i
 
-reached : (g : Over) (c : After-descend-level g) → Begun g.F.Format.layout g.H.Holder.tells (g.H.Holder.alone c.args.holder.now) (g.H.Holder.view c.args.holder.now) (g.H.Holder.view c.root-root.new.self) c.args.extent c.root-root.result → Reached g.F.Format.layout g.H.Holder.tells (g.H.Holder.alone c.args.holder.now) (g.H.Holder.view c.args.holder.now) (g.H.Holder.view c.root-root.new.self) (g.H.Holder.view c.descend-level.new.holder) c.args.extent c.root-root.result c.descend-level.result
+reached : (g : Over) (c : After-descend-stop g) → Begun g.F.Format.layout g.H.Holder.tells (g.H.Holder.alone c.args.holder.now) (g.H.Holder.view c.args.holder.now) (g.H.Holder.view c.root-root.new.self) c.args.extent c.root-root.result → Reached g.F.Format.layout g.H.Holder.tells (g.H.Holder.alone c.args.holder.now) (g.H.Holder.view c.args.holder.now) (g.H.Holder.view c.root-root.new.self) (g.H.Holder.view c.descend-stop.new.holder) c.args.extent c.root-root.result c.descend-stop.result.level
 reached g c b =
     let good = g.met.F.Format.lawful_layout in
-    let e = c.descend-level.ensures in
+    let e = c.descend-stop.ensures in
     let level = step_over c.args.log2 c.INDEX.result _ _ c.requires.size (c.INDEX.ensures ∙ sym g.met.F.Format.has_constants.index_is) in
     record {
       begun = b;
       walked = e.walked;
       range = e.range;
       down = e.down;
-      low = subst (λ (n : ℕ). n ≤ c.descend-level.result) level e.lowest;
+      low = subst (λ (n : ℕ). n ≤ c.descend-stop.result.level) level e.lowest;
       clear = e.clear (owns_root good b) (clear_here good b);
     }
 
-done : (g : Over) (c : After-climb-2 g) → Reached g.F.Format.layout g.H.Holder.tells (g.H.Holder.alone c.args.holder.now) (g.H.Holder.view c.args.holder.now) (g.H.Holder.view c.root-root.new.self) (g.H.Holder.view c.descend-level.new.holder) c.args.extent c.root-root.result c.descend-level.result → Done g.F.Format.layout g.H.Holder.tells (g.H.Holder.alone c.args.holder.now) (g.H.Holder.alone c.descend-level.new.holder) (g.H.Holder.view c.args.holder.now) (g.H.Holder.view c.root-root.new.self) (g.H.Holder.view c.descend-level.new.holder) (g.H.Holder.view c.map_at-mapped.new.holder) (g.H.Holder.view c.climb-2.new.holder) c.args.extent c.root-root.result c.descend-level.result (linked_count (g.H.Holder.view c.descend-level.new.holder) (g.H.Holder.aside c.descend-level.new.holder)) c.map_at-mapped.result
-done g c r = record { reached = r; ends = c.map_at-mapped.ensures.ends; left = c.climb-2.ensures.left }
+done : (g : Over) (c : After-map_from g) → Reached g.F.Format.layout g.H.Holder.tells (g.H.Holder.alone c.args.holder.now) (g.H.Holder.view c.args.holder.now) (g.H.Holder.view c.root-root.new.self) (g.H.Holder.view c.descend-stop.new.holder) c.args.extent c.root-root.result c.descend-stop.result.level → Done g.F.Format.layout g.H.Holder.tells (g.H.Holder.alone c.args.holder.now) (g.H.Holder.alone c.descend-stop.new.holder) (g.H.Holder.view c.args.holder.now) (g.H.Holder.view c.root-root.new.self) (g.H.Holder.view c.descend-stop.new.holder) c.map_from.ensures.ends.between (g.H.Holder.view c.map_from.new.holder) c.args.extent c.root-root.result c.descend-stop.result.level (linked_count (g.H.Holder.view c.descend-stop.new.holder) (g.H.Holder.aside c.descend-stop.new.holder)) c.map_from.result
+done g c r = record { reached = r; ends = c.map_from.ensures.ends.ends; left = c.map_from.ensures.ends.left }
 
-pub descend-level-requires-clause-range : goal.descend-level-requires-clause-range
-descend-level-requires-clause-range g c =
-    let at = goal.at.descend-level-requires-clause-range g c in range_root g.met.F.Format.lawful_layout (begun g at.After-INDEX)
+pub descend-stop-requires-clause-range : goal.descend-stop-requires-clause-range
+descend-stop-requires-clause-range g c =
+    let at = goal.at.descend-stop-requires-clause-range g c in range_root g.met.F.Format.lawful_layout (begun g at.After-INDEX)
 
-pub descend-level-requires-clause-lowest : goal.descend-level-requires-clause-lowest
-descend-level-requires-clause-lowest g c =
-    let at = goal.at.descend-level-requires-clause-lowest g c in
+pub descend-stop-requires-clause-lowest : goal.descend-stop-requires-clause-lowest
+descend-stop-requires-clause-lowest g c =
+    let at = goal.at.descend-stop-requires-clause-lowest g c in
     let level = step_over c.args.log2 c.INDEX.result _ _ c.requires.size (c.INDEX.ensures ∙ sym g.met.F.Format.has_constants.index_is) in
     subst (λ (n : ℕ). n ≤ c.root-root.result) (sym level) (low_size g.met.F.Format.lawful_layout (begun g at.After-INDEX))
 
-pub map_at-mapped-requires-clause-may : goal.map_at-mapped-requires-clause-may
-map_at-mapped-requires-clause-may g c =
-    let at = goal.at.map_at-mapped-requires-clause-may g c in may_map g.met.F.Format.lawful_layout (reached g at.After-descend-level (begun g at.After-INDEX))
+pub map_from-requires-clause-may : goal.map_from-requires-clause-may
+map_from-requires-clause-may g c =
+    let at = goal.at.map_from-requires-clause-may g c in may_map g.met.F.Format.lawful_layout (reached g at.After-descend-stop (begun g at.After-INDEX))
+
+pub map_from-requires-clause-leaf : goal.map_from-requires-clause-leaf
+map_from-requires-clause-leaf g c = λ leaf.
+    let f = g.F.Format.layout in
+    let at = goal.at.map_from-requires-clause-leaf g c in
+    let d : View = g.H.Holder.view c.descend-stop.new.holder in
+    let level = c.descend-stop.result.level in
+    subst (λ (m : Met). StopsAt f d c.args.extent.first c.args.extent.end (c.args.log2 / c.INDEX.result) level m) leaf c.descend-stop.ensures.stops
+    (may_map g.met.F.Format.lawful_layout (reached g at.After-descend-stop (begun g at.After-INDEX))).owns
+
+pub map_from-requires-clause-tables : goal.map_from-requires-clause-tables
+map_from-requires-clause-tables g c =
+    let at = goal.at.map_from-requires-clause-tables g c in
+    let long = path_long g.met.F.Format.lawful_layout (reached g at.After-descend-stop (begun g at.After-INDEX)) in omega arith
 
 pub returns-clause-rests : goal.returns-clause-rests
-returns-clause-rests g c = let at = goal.at.returns-clause-rests g c in rests_after g.met.F.Format.lawful_layout (done g at.After-climb-2 (reached g at.After-descend-level (begun g at.After-INDEX)))
+returns-clause-rests g c = let at = goal.at.returns-clause-rests g c in rests_after g.met.F.Format.lawful_layout (done g at.After-map_from (reached g at.After-descend-stop (begun g at.After-INDEX)))
 
 pub returns-clause-answered : goal.returns-clause-answered
-returns-clause-answered g c = let at = goal.at.returns-clause-answered g c in answers g.met.F.Format.lawful_layout (done g at.After-climb-2 (reached g at.After-descend-level (begun g at.After-INDEX)))
+returns-clause-answered g c = let at = goal.at.returns-clause-answered g c in answers g.met.F.Format.lawful_layout (done g at.After-map_from (reached g at.After-descend-stop (begun g at.After-INDEX)))
 
 pub returns-clause-accounted : goal.returns-clause-accounted
 returns-clause-accounted g c = λ a.
     let at = goal.at.returns-clause-accounted g c in
-    let r = reached g at.After-descend-level (begun g at.After-INDEX) in
+    let r = reached g at.After-descend-stop (begun g at.After-INDEX) in
     let a_root = c.root-root.ensures.stays.still_alone a in
-    accounts g.met.F.Format.lawful_layout (done g at.After-climb-2 r) (g.H.Holder.aside c.args.holder.now)
-    (linked_walked (g.H.Holder.view c.args.holder.now) (g.H.Holder.view c.descend-level.new.holder) (g.H.Holder.aside c.args.holder.now) (g.H.Holder.aside c.descend-level.new.holder)
-    (to_table g.met.F.Format.lawful_layout r) (c.descend-level.ensures.stays.same_aside ∙ c.root-root.ensures.stays.same_aside))
-    a (c.descend-level.ensures.stays.still_alone a_root) (c.descend-level.ensures.owned a_root)
+    accounts g.met.F.Format.lawful_layout (done g at.After-map_from r) (g.H.Holder.aside c.args.holder.now)
+    (linked_walked (g.H.Holder.view c.args.holder.now) (g.H.Holder.view c.descend-stop.new.holder) (g.H.Holder.aside c.args.holder.now) (g.H.Holder.aside c.descend-stop.new.holder)
+    (to_table g.met.F.Format.lawful_layout r) (c.descend-stop.ensures.stays.same_aside ∙ c.root-root.ensures.stays.same_aside))
+    a (c.descend-stop.ensures.stays.still_alone a_root) (c.descend-stop.ensures.owned a_root)
 
-pub map_at-mapped-requires-clause-small : goal.map_at-mapped-requires-clause-small
-map_at-mapped-requires-clause-small g c =
+pub map_from-requires-clause-small : goal.map_from-requires-clause-small
+map_from-requires-clause-small g c =
     let small = size_small g.met.F.Format.lawful_layout c.requires.may.inside.extent in
     let is = c.requires.size in omega arith
 
-pub descend-level-requires-clause-whole : goal.descend-level-requires-clause-whole
-descend-level-requires-clause-whole g c = λ t.
+pub descend-stop-requires-clause-whole : goal.descend-stop-requires-clause-whole
+descend-stop-requires-clause-whole g c = λ t.
     let w = c.requires.whole t in
     let f = g.F.Format.layout in
     let index : c.INDEX.result ≡ f.index = c.INDEX.ensures ∙ sym g.met.F.Format.has_constants.index_is in
