@@ -21,8 +21,6 @@ mod way;
 pub use block::block_of;
 pub use cut::{CutRefused, cut_at, cut_page};
 pub use numbers::{entry_bits, entry_number, spine_end};
-pub use range::{
-    Met, Stop, Under, climb, descend, entry_end, first_at, first_below, look_below,
-};
+pub use range::{Met, Stop, Under, climb, descend, entry_end, first_at, first_below, look_below};
 pub use translate::{OutsideLease, lookup};
 pub use walker::{RangeWalk, first_mapped, next_block};

@@ -65,7 +65,7 @@ run_fork-run_branch-requires-in-Forked g t c κs within =
           (
             subst (λ (cs : List Opened). length cs < 16) (sym cuts) f.room,
             subst (λ (cs : List Opened). IsOneBody (take (c.branches-middle.result.1 - (c.branches-middle.result.0 + 1)) (drop (c.branches-middle.result.0 + 1) c.args.commands.now))
-            (cut_by q c.args.at ∷ cs)) (sym cuts)
+                (cut_by q c.args.at ∷ cs)) (sym cuts)
                 (f.right_body (cut_by q c.args.at)),
           ),
         ),
