@@ -23,7 +23,7 @@ fn is_built(what: What) -> bool
 {
     matches!(
         what,
-        What::Map { .. } | What::Unmap { .. } | What::Lookup { .. } | What::Dump
+        What::Map { .. } | What::Unmap { .. } | What::Lookup { .. } | What::Dump | What::Release
     )
 }
 

@@ -111,7 +111,7 @@ fn other_words_leave_the_input(rt: HostRuntime) -> Result<(), Fail> {
 }
 
 // Scripts and what they are answered.
-const ANSWERED: [(&[u8], &[u8]); 3] = [
+const ANSWERED: [(&[u8], &[u8]); 4] = [
     // the middle of a range is taken
     (
         b"format vtdss3\nframes 8\nhold 0\nmap 0x3000 0x9000 0x1000 r\nmap 0x1000 0x20000 0x3000 rw\nlookup 0x1000\nlookup 0x3004\nclose\nend\n",
@@ -121,6 +121,11 @@ const ANSWERED: [(&[u8], &[u8]); 3] = [
     (
         b"format vtdss3\nframes 3\nhold 2\nmap 0x0 0x1000 0x1000 rw\nmap 0x40000000 0x2000 0x1000 rw\nmap 0x1000 0x8000 0x1000 r\nlookup 0x1fff\nclose\nend\n",
         b"4 map ok\n5 map frames\n6 map ok\n7 lookup 0x8fff r\n",
+    ),
+    // frames that are given back are drawn again, and a release of none changes nothing
+    (
+        b"format vtdss3\nframes 5\nhold 4\nrelease\nmap 0x0 0x1000 0x1000 rw\nunmap 0x0 0x40000000\nrelease\nrelease\nmap 0x40000000 0x2000 0x1000 r\nlookup 0x40000fff\nclose\nend\n",
+        b"4 release ok\n5 map ok\n6 unmap ok 1\n7 release ok\n8 release ok\n9 map ok\n10 lookup 0x2fff r\n",
     ),
     // a tebibyte that pages alone could tile, in all frames, and a gigabyte that they do tile
     (
@@ -140,7 +145,7 @@ fn scripts_are_answered(rt: HostRuntime) -> Result<(), Fail> {
 }
 
 // Inputs that are refused, each with its first bad line and the reason.
-const REFUSED: [(&[u8], u32, Reason); 11] = [
+const REFUSED: [(&[u8], u32, Reason); 10] = [
     (b"", 1, Reason::Ended),
     (
         b"format vtdss3\nframes 8\nhold 0\nclose\nend",
@@ -171,11 +176,6 @@ const REFUSED: [(&[u8], u32, Reason); 11] = [
         b"format vtdss3\nframes 0\nhold 0\nclose\nend\n",
         2,
         Reason::Limit,
-    ),
-    (
-        b"format vtdss3\nframes 8\nhold 1\nrelease\nclose\nend\n",
-        4,
-        Reason::Unbuilt,
     ),
     (
         b"format vtdss3\nframes 8\nhold 0\nlookup 0x0\nfork 0x1000\nwith\nend\nclose\nend\n",

@@ -10,7 +10,11 @@ use Rattle.pt_view.specs.declared.view.View.{View}
 use Rattle.pt_view.specs.declared.view.Piece.{Piece}
 use Rattle.pt_view.specs.Pieces.{all_pieces, pieces_of, words_of}
 use Rattle.pt_view.specs.Views.{IsAtRest}
-use Rattle.pt_run.specs.Running.{IsReady, blocks_of}
+use Rattle.pt_view.specs.Calls.{IsReleased}
+use Rattle.pt_model.specs.declared.command.What.TheVariants.{Release}
+use Rattle.pt_model.specs.declared.reply.Answer.TheVariants as answering
+use Rattle.pt_run.specs.Built.{machine}
+use Rattle.pt_run.specs.Running.{AnswersAs, IsReady, blocks_of}
 
 -- a piece's block is put before others, where the piece is its block's first word
 put_block : (b : Bool) (x : Piece) (old new all : List Block) → all ≡ old ++ new → (if b then x.block ∷ all else all) ≡ (if b then x.block ∷ old else old) ++ new
@@ -47,3 +51,25 @@ blocks_are f v bs rest = ap blocks_of rest.pieces ∙ blocks_back f bs
 -- a holder at rest with some blocks is at rest with those that are read
 pub ready_at : (f : Layout) (v : View) {bs : List Block} → IsAtRest f v bs → IsReady f v
 ready_at f v {bs} rest = subst (IsAtRest f v) (sym (blocks_are f v bs rest)) rest
+
+-- a release leaves the holder at rest, with the book that it had
+pub released : (f : Layout) {tells : Type 0} (v w : View) → IsReady f v → IsReleased tells v w → AnswersAs f v w Release answering.Release
+released f v w ready r =
+    let e = r.freed in
+    record {
+      ready = ready_at f w {bs = blocks_of v.pieces} (record {
+        path = e.path ∙ ready.path;
+        prepared = e.prepared ∙ ready.prepared;
+        end = e.end ∙ ready.end;
+        pieces = e.book.pieces ∙ ready.pieces;
+      });
+      machine = λ i. machine f (e.range.levels i) (e.range.frames i);
+      answers = refl;
+      book = λ i. record {
+        first = e.range.first i;
+        count = e.range.count i;
+        blocks = blocks_of (e.book.pieces i);
+        tables = e.book.tables i;
+        top = e.book.top i;
+      };
+    }

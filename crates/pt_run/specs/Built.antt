@@ -2,17 +2,18 @@
 use Rattle.std.specs.Prelude.{ℕ, Bool, true, false, List}
 use Rattle.std.specs.List.{list_all}
 use Rattle.pt_model.specs.declared.command.What.{What}
-use Rattle.pt_model.specs.declared.command.What.TheVariants.{Map, Unmap, Lookup, Dump}
+use Rattle.pt_model.specs.declared.command.What.TheVariants.{Map, Unmap, Lookup, Dump, Release}
 use Rattle.pt_model.specs.declared.command.Command.{Command}
 use Rattle.pt_model.specs.Layout.{Layout}
 use Rattle.pt_model.specs.Run.{Machine}
 
--- maps, unmaps, lookups and dumps
+-- maps, unmaps, lookups, dumps and releases
 abbrev pub is_built : What → Bool
 is_built (Map va pa len prot) = true
 is_built (Unmap va len) = true
 is_built (Lookup va) = true
 is_built Dump = true
+is_built Release = true
 is_built _ = false
 
 abbrev pub are_built : List Command → Bool

@@ -152,6 +152,16 @@ fn dump_all<F: Format, H: Holder<F>>(alloc: Global, holder: &mut H) -> Result<Du
     dump::<F, H>(alloc, holder, span)
 }
 
+/// Frees every frame of the purse.
+fn release<F: Format, H: Holder<F>>(holder: &mut H)
+    requires ready { IsReady F.layout (H.view holder.old) }
+    ensures stays { Stays H.space H.aside H.alone holder.old holder.new }
+    ensures releases { AnswersAs F.layout (H.view holder.old) (H.view holder.new) what.Release answer.Release }
+    ensures none { (H.view holder.new).purse ≡ [] }
+{
+    holder.release();
+}
+
 /// Answers a command that isn't of a fork.
 pub(crate) fn answer<F: Format, H: Holder<F>>(
     alloc: Global,
@@ -174,6 +184,10 @@ pub(crate) fn answer<F: Format, H: Holder<F>>(
         What::Unmap { va, len } => Answer::Unmap(unmap_range::<F, H>(holder, va, len)),
         What::Lookup { va } => Answer::Lookup(look_up::<F, H>(holder, va)),
         What::Dump => Answer::Dump(dump_all::<F, H>(alloc, holder)?),
+        What::Release => {
+            release::<F, H>(holder);
+            Answer::Release
+        }
         _ => unreachable!(),
     })
 }
