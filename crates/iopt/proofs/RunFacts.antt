@@ -8,9 +8,9 @@ use Rattle.pt_model.specs.Run.{ByAccount, at_start, replies_from, run_by}
 use Rattle.pt_model.specs.Text.{replies_text}
 use Rattle.pt_view.specs.declared.view.View.{View}
 use Rattle.pt_plain.specs.Owner.{IsOpened}
-use Rattle.pt_run.specs.Built.{machine}
-use Rattle.pt_run.specs.Running.{Runs, book_in, machine_in}
-use Rattle.pt_run.proofs.RestBlocks.{blocks_are}
+use Rattle.pt_reply.specs.Built.{machine}
+use Rattle.pt_reply.specs.Running.{Runs, book_in, machine_in}
+use Rattle.pt_reply.proofs.RestBlocks.{blocks_are}
 
 module _ (f : Layout) (n l hold : ℕ) (v : View) (opened : IsOpened f n l hold v) where
   -- a new space has the new book, and its machine

@@ -9,7 +9,7 @@ use Rattle.pt_script.specs.declared.whole.Script.{Script}
 use Rattle.pt_script.specs.declared.error.ScriptError.{ScriptError}
 use Rattle.pt_script.specs.declared.error.ScriptError.TheVariants.{Bad, Memory}
 use Rattle.pt_script.specs.Scripts.{text_in}
-use Rattle.pt_run.specs.Built.{is_built, are_built}
+use Rattle.pt_reply.specs.Built.{is_built, are_built}
 use Rattle.iopt.specs.Stage.{first_ask, first_unbuilt, layout_of, unbuilt_line, IsRunOf, IsAnswered, IsRefusedFor, IsStopped, WhatRunsIsNotRefused}
 use Rattle.iopt.specs.Top.{CanRun, IsDoneWithMemory, script_status}
 

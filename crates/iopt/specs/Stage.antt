@@ -19,7 +19,7 @@ use Rattle.fmt_vtdss.specs.VtdWords as vtd
 use Rattle.fmt_x86.specs.X86Words as x86
 use Rattle.fmt_vmsa.specs.VmsaWords as vmsa
 use Rattle.fmt_riscv.specs.RiscvWords as riscv
-use Rattle.pt_run.specs.Built.{is_built, machine}
+use Rattle.pt_reply.specs.Built.{is_built, machine}
 
 -- the formats that run
 abbrev pub layout_of : Name → Option Layout

@@ -2,7 +2,7 @@
 
 ghost use Rattle.std.specs.Prelude.{◌<◌, IfOk, IsTrue};
 ghost use Rattle.pt_book.specs.Spaces.{IsStart};
-ghost use Rattle.pt_run.specs.Telling.{NamesLegalBlock, has_small_blocks};
+ghost use Rattle.pt_reply.specs.Telling.{NamesLegalBlock, has_small_blocks};
 
 use crate::status::Status;
 use crate::top::run;
@@ -15,7 +15,7 @@ use fmt_x86::X86;
 use pt_book::ListBook;
 use pt_format::Format;
 use pt_model::{Answer, LookupAnswer, MapAnswer, Name, Prot, Reply, UnmapAnswer, What};
-use pt_run::push_reply;
+use pt_reply::push_reply;
 use pt_script::{Script, parse};
 use pt_stream::{MemorySink, SureSource, push_dec, push_hex};
 use std::alloc::Global;

@@ -4,14 +4,14 @@ ghost use Rattle.std.specs.Prelude.{◌≡◌, ◌<◌, ◌≤◌, [], IfOk, IsT
 ghost use Rattle.pt_model.specs.Words.{frame_limit};
 ghost use Rattle.pt_model.specs.Run.{ByAccount, run_by};
 ghost use Rattle.pt_model.specs.Text.{replies_text};
-ghost use Rattle.pt_run.specs.Built.{are_built, machine};
-ghost use Rattle.pt_run.specs.Telling.{has_small_blocks};
+ghost use Rattle.pt_reply.specs.Built.{are_built, machine};
+ghost use Rattle.pt_reply.specs.Telling.{has_small_blocks};
 
 use pt_format::Format;
 use pt_model::Command;
 use pt_num::Memory;
 use pt_plain::Plain;
-use pt_run::run_in_turn;
+use pt_reply::run_in_turn;
 use std::alloc::Global;
 
 /// Runs commands on a new space of so many frames, with so many levels from the start and the first `hold` frames

@@ -2,8 +2,8 @@
 
 ghost use Rattle.std.specs.Prelude.{◌≡◌, ◌<◌, ◌≤◌, [], IsTrue, IsNone, IfOk, IfErr};
 ghost use Rattle.pt_model.specs.Words.{frame_limit};
-ghost use Rattle.pt_run.specs.Built.{is_built, are_built};
-ghost use Rattle.pt_run.specs.Telling.{has_small_blocks};
+ghost use Rattle.pt_reply.specs.Built.{is_built, are_built};
+ghost use Rattle.pt_reply.specs.Telling.{has_small_blocks};
 ghost use Rattle.iopt.specs.Stage.{layout_of, first_unbuilt, first_ask, unbuilt_in, unbuilt_line, IsRunOn, IsRunOf, IsAnswered, IsRefusedFor, IsStopped, WhatRunsIsNotRefused};
 
 use crate::runner::run_commands;

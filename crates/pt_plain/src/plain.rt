@@ -1,6 +1,7 @@
 //! The words of one owner, and how they begin and end.
 
 ghost use Rattle.std.specs.Prelude.{◌≡◌, ℕ, ◌+◌, ◌^◌, ◌<◌, ◌≤◌, [], ◌∷◌, length, IfOk, Some, None, slice_index};
+ghost use Rattle.pt_model.specs.Layout.{input_pages};
 ghost use Rattle.pt_model.specs.Words.{frame_limit, tag};
 ghost use Rattle.pt_rule.specs.Lawful.{Lawful};
 ghost use Rattle.pt_rule.specs.Tags.{first_or};
@@ -106,6 +107,7 @@ impl<F: Format> Plain<F> {
         requires { Rests F.layout self.view }
         ensures words { result.items ≡ self.words }
         ensures lawful { Lawful F.layout self.view.frames self.view.levels result.items (self.view ∷ []) }
+        ensures whole { self.view.count ≡ input_pages F.layout }
     {
         let Plain {
             words,

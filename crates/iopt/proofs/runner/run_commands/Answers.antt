@@ -1,7 +1,7 @@
 use Rattle.std.proofs.Common.{[], List, ℕ, ap, subst}
 use Rattle.pt_view.specs.Views.{Aside}
-use Rattle.pt_run.specs.Running.{Runs}
-use Rattle.pt_run.proofs.RestBlocks.{ready_at}
+use Rattle.pt_reply.specs.Running.{Runs}
+use Rattle.pt_reply.proofs.RestBlocks.{ready_at}
 use Rattle.iopt.proofs.RunFacts.{run_is}
 use Rattle.iopt.proofs.runner.run_commands.Goals as goal
 

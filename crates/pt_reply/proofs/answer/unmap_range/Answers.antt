@@ -1,0 +1,24 @@
+use Rattle.std.proofs.Common.{Some, ap, ◌∙◌}
+use Rattle.pt_sweep.specs.Unmaps.{refusal_of}
+use Rattle.pt_view.specs.Views.{book_of}
+use Rattle.pt_reply.specs.Running.{blocks_of}
+use Rattle.pt_reply.proofs.UnmapFacts.{cut_is_legal, unmaps}
+use Rattle.pt_reply.proofs.answer.unmap_range.Goals as goal
+
+pub returns-in-Ok-clause-unmaps : goal.returns-in-Ok-clause-unmaps
+returns-in-Ok-clause-unmaps g c =
+    let v = g.H.Holder.view c.args.holder.now in
+    let done = c.in-Ok.ensures.answered (blocks_of v.pieces) c.requires.ready in
+    unmaps g.F.Format.layout v (g.H.Holder.view c.unmap.new.holder) c.requires.ready c.args.va c.args.len _ _ c.in-Ok.pages done.0 done.1
+
+pub returns-in-Err-CutsEntry-clause-legal : goal.returns-in-Err-CutsEntry-clause-legal
+returns-in-Err-CutsEntry-clause-legal g c =
+    let f = g.F.Format.layout in
+    let v = g.H.Holder.view c.args.holder.now in
+    let blocks = blocks_of v.pieces in
+    let rest = c.requires.ready in
+    let cut = c.in-Err-CutsEntry.ensures.answered.refusal blocks rest ∙ ap (λ e. Some (refusal_of e)) c.in-Err-CutsEntry.field-0-is in
+    record {
+      legal = cut_is_legal f (book_of v blocks) c.args.va c.args.len c.in-Err-CutsEntry.block (c.range-span.ensures.lawful blocks rest).legal cut;
+      small = c.requires.small;
+    }

@@ -1,0 +1,85 @@
+-- What each command does to a holder at rest, by the book machine, and a run in its middle.
+use Rattle.std.specs.Prelude.{◌≡◌, ℕ, ◌==◌, false, Bool, All, List, [], ◌∷◌, ◌++◌, Some, IsTrue, take, if◌then◌else◌}
+use Rattle.pt_model.specs.declared.block.Block.{Block}
+use Rattle.pt_model.specs.declared.command.Command.{Command}
+use Rattle.pt_model.specs.declared.command.What.{What}
+use Rattle.pt_model.specs.declared.command.What.TheVariants.{Map}
+use Rattle.pt_model.specs.declared.reply.Answer.{Answer}
+use Rattle.pt_model.specs.Layout.{Layout}
+use Rattle.pt_model.specs.Book.{Book}
+use Rattle.pt_model.specs.Cuts.{crosses, spanning}
+use Rattle.pt_model.specs.Dumps.{blocks_inside, dump_limit}
+use Rattle.pt_model.specs.Run.{Machine, ByAccount, answer_to, at_start, book_after, lacks_frames, replies_from, state_after}
+use Rattle.pt_model.specs.Text.{replies_text}
+use Rattle.pt_view.specs.declared.view.View.{View}
+use Rattle.pt_view.specs.declared.view.Piece.{Piece}
+use Rattle.pt_view.specs.Views.{IsAtRest, book_of}
+use Rattle.pt_walk.specs.declared.way.Way.{Way}
+use Rattle.pt_walk.specs.RangeWalks.{left_of}
+use Rattle.pt_reply.specs.Built.{are_built, machine}
+
+-- the blocks whose first words are among these pieces: all blocks of a view at rest
+abbrev pub blocks_of : List Piece → List Block
+blocks_of [] = []
+blocks_of (x ∷ xs) = if x.part == 0 then x.block ∷ blocks_of xs else blocks_of xs
+
+abbrev pub book_in : View → Book
+book_in v = book_of v (blocks_of v.pieces)
+
+-- the machine of a holder: its frames, and the levels that its tree started with
+abbrev pub machine_in : Layout → View → Machine
+machine_in f v = machine f v.levels v.frames
+
+-- the holder is at rest
+abbrev pub IsReady : Layout → View → Type 0
+IsReady f v = IsAtRest f v (blocks_of v.pieces)
+
+-- the holder is ready again as the same machine, with the same book
+pub record RestsAsBefore (f : Layout) (v w : View) : Type 0 where
+  pub ready : IsReady f w
+  pub machine : machine_in f w ≡ machine_in f v
+  pub book : book_in w ≡ book_in v
+
+-- whether the account of the whole book lacks frames for a command: a map alone needs some
+abbrev pub lacks_for : Machine → Book → What → Bool
+lacks_for m book (Map va pa len prot) = lacks_frames m book va pa len prot
+lacks_for m book _ = false
+
+-- What a command does to the holder: it is ready again as the same machine, and its answer and its book are those of the
+-- book machine.
+pub record AnswersAs (f : Layout) (v w : View) (what : What) (answer : Answer) : Type 0 where
+  pub ready : IsReady f w
+  pub machine : machine_in f w ≡ machine_in f v
+  pub answers : answer_to (machine_in f v) (book_in v) (lacks_for (machine_in f v) (book_in v) what) what ≡ Some answer
+  pub book : book_in w ≡ book_after (machine_in f v) (book_in v) (lacks_for (machine_in f v) (book_in v) what) what
+
+-- Dumps.
+
+-- no block of the holder is on both sides of a page
+abbrev pub IsUncrossed : View → (page : ℕ) → Type 0
+IsUncrossed v page = All (λ b. crosses page b ≡ false) (blocks_of v.pieces)
+
+-- the blocks of the pages from `first` to before `last`
+abbrev pub blocks_over : View → (first last : ℕ) → List Block
+blocks_over v first last = blocks_inside (spanning (book_in v) first last)
+
+-- one more block is listed behind lower ones: the lowest are then the same, whatever follows
+abbrev pub ListsNext : (old : List Block) → Block → (new : List Block) → Type 0
+ListsNext old block new = (left : List Block) → take dump_limit (new ++ left) ≡ take dump_limit (old ++ block ∷ left)
+
+-- the blocks that are left of a walk
+abbrev pub left_in : View → Way → List Block
+left_in v w = left_of w (blocks_of v.pieces)
+
+-- A run.
+
+-- With this view and text and these commands left: the text and the replies to them are the old text and the replies to
+-- all commands, and they lead to the same book.
+pub record Runs (f : Layout) (v w : View) (commands rest : List Command) (old new : List ℕ) : Type 0 where
+  pub ready : IsReady f w
+  pub machine : machine_in f w ≡ machine_in f v
+  pub built : IsTrue (are_built rest)
+  pub replies : new ++ replies_text f (replies_from (machine_in f v) ByAccount (at_start (book_in w)) rest)
+      ≡ old ++ replies_text f (replies_from (machine_in f v) ByAccount (at_start (book_in v)) commands)
+  pub state : state_after (machine_in f v) ByAccount (at_start (book_in w)) rest
+      ≡ state_after (machine_in f v) ByAccount (at_start (book_in v)) commands
