@@ -5,10 +5,10 @@
 //! commands without forks is then answered in turn, and the text of its replies is that of the book machine's run.
 #![tactic(auto)]
 
-mod answer;
+mod commands;
 mod runner;
 mod text;
 
-pub use answer::answer;
+pub use commands::answer;
 pub use runner::run_in_turn;
 pub use text::push_reply;

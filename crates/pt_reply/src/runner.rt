@@ -6,7 +6,7 @@ ghost use Rattle.pt_reply.specs.Built.{are_built};
 ghost use Rattle.pt_reply.specs.Telling.{has_small_blocks};
 ghost use Rattle.pt_reply.specs.Running.{IsReady, Runs};
 
-use crate::answer::answer;
+use crate::commands::answer;
 use crate::text::push_reply;
 use pt_format::Format;
 use pt_model::{Command, Reply};

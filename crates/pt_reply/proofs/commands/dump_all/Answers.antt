@@ -1,7 +1,7 @@
 use Rattle.pt_view.specs.declared.view.View.{View}
 use Rattle.pt_reply.specs.Running.{blocks_of}
 use Rattle.pt_reply.proofs.DumpFacts.{dumps_as, uncrossed_from, uncrossed_to}
-use Rattle.pt_reply.proofs.answer.dump_all.Goals as goal
+use Rattle.pt_reply.proofs.commands.dump_all.Goals as goal
 
 pub dump-requires-clause-from : goal.dump-requires-clause-from
 dump-requires-clause-from g c =

@@ -9,9 +9,9 @@ use Rattle.pt_walk.specs.RangeWalks.{left_of, rested}
 use Rattle.pt_reply.specs.Running.{blocks_of, blocks_over, left_in}
 use Rattle.pt_reply.proofs.MapFacts.{looked}
 use Rattle.pt_reply.proofs.DumpFacts.{dumps_listable, dumps_same, listable_blocks, met_are_over}
-use Rattle.pt_reply.proofs.answer.dump.Given.{Over}
-use Rattle.pt_reply.proofs.answer.dump.Goals as goal
-use Rattle.pt_reply.proofs.answer.dump.Goals.{After-begin-walk}
+use Rattle.pt_reply.proofs.commands.dump.Given.{Over}
+use Rattle.pt_reply.proofs.commands.dump.Goals as goal
+use Rattle.pt_reply.proofs.commands.dump.Goals.{After-begin-walk}
 
 -- the walk has the same blocks, and is at rest with them once it has left its path
 module _ (g : Over) (c : After-begin-walk g) where

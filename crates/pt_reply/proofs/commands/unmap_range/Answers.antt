@@ -3,7 +3,7 @@ use Rattle.pt_sweep.specs.Unmaps.{refusal_of}
 use Rattle.pt_view.specs.Views.{book_of}
 use Rattle.pt_reply.specs.Running.{blocks_of}
 use Rattle.pt_reply.proofs.UnmapFacts.{cut_is_legal, unmaps}
-use Rattle.pt_reply.proofs.answer.unmap_range.Goals as goal
+use Rattle.pt_reply.proofs.commands.unmap_range.Goals as goal
 
 pub returns-in-Ok-clause-unmaps : goal.returns-in-Ok-clause-unmaps
 returns-in-Ok-clause-unmaps g c =

@@ -3,7 +3,7 @@ use Rattle.pt_view.specs.Views.{linked_count}
 use Rattle.pt_map.specs.Answers.{IsShortOf, extent_at, refusal_of}
 use Rattle.pt_reply.specs.Running.{blocks_of}
 use Rattle.pt_reply.proofs.MapFacts.{maps, wants}
-use Rattle.pt_reply.proofs.answer.map_range.Goals as goal
+use Rattle.pt_reply.proofs.commands.map_range.Goals as goal
 
 pub returns-in-Ok-clause-maps : goal.returns-in-Ok-clause-maps
 returns-in-Ok-clause-maps g c =

@@ -6,7 +6,7 @@ use Rattle.pt_view.specs.Loads.{ByLoads}
 use Rattle.pt_view.specs.Views.{KeepsRest, Stays}
 use Rattle.pt_walk.specs.RangeWalks.{IsWalking, rested}
 use Rattle.pt_reply.specs.Running.{left_in}
-use Rattle.pt_reply.proofs.answer.list_blocks.Given as goal
+use Rattle.pt_reply.proofs.commands.list_blocks.Given as goal
 
 -- the blocks that came and those that are left are all
 abbrev pub invariant-loop-block : goal.invariant-loop-block

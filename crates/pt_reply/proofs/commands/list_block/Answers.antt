@@ -1,6 +1,6 @@
 use Rattle.std.proofs.Common.{arith}
 use Rattle.pt_reply.proofs.DumpFacts.{listed_full}
-use Rattle.pt_reply.proofs.answer.list_block.Goals as goal
+use Rattle.pt_reply.proofs.commands.list_block.Goals as goal
 
 pub returns-else-len-lt-DUMP_LIMIT-clause-next : goal.returns-else-len-lt-DUMP_LIMIT-clause-next
 returns-else-len-lt-DUMP_LIMIT-clause-next c =

@@ -7,7 +7,7 @@ use Rattle.pt_view.proofs.Stays.{stays_on}
 use Rattle.pt_walk.specs.RangeWalks.{is_left, left_of, rested}
 use Rattle.pt_reply.specs.Running.{blocks_of, left_in}
 use Rattle.pt_reply.proofs.DumpFacts.{counts_on, dump_of, dumps_all, few_of_lawful, lists_on}
-use Rattle.pt_reply.proofs.answer.list_blocks.Goals as goal
+use Rattle.pt_reply.proofs.commands.list_blocks.Goals as goal
 
 pub overflow_add-count : goal.overflow_add-count
 overflow_add-count g c =
