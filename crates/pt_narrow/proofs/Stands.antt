@@ -56,22 +56,14 @@ module _ (b c : Book) (same_first : c.first ≡ b.first) (same_count : c.count �
   stands_on first count (n ∷ ns) low high s =
       let above = s.1.above in
       let below = s.1.below in
-      elim s.0 [
-        | inl left ↦
-            let e = left.0 in
-            let end = left.1 in (
-              s.0,
-              record { above = above; below = below; apart = keeps n.at (inr (omega arith)) s.1.apart },
-              stands_on n.first n.count ns (omega arith) (omega arith) s.2,
-            )
-        | inr right ↦
-            let e = right.0 in
-            let end = right.1 in (
-              s.0,
-              record { above = above; below = below; apart = keeps n.at (inl (omega arith)) s.1.apart },
-              stands_on n.first n.count ns (omega arith) (omega arith) s.2,
-            )
-      ]
+      let around : (n.first ≤ lo) × (hi ≤ n.first + n.count) × ((n.at ≤ lo) ⊎ (hi ≤ n.at)) = elim s.0 [
+        | inl left ↦ let e = left.0 in let end = left.1 in (omega arith, omega arith, inr (omega arith))
+        | inr right ↦ let e = right.0 in let end = right.1 in (omega arith, omega arith, inl (omega arith))
+      ] in (
+        s.0,
+        record { above = above; below = below; apart = keeps n.at around.2 s.1.apart },
+        stands_on n.first n.count ns around.0 around.1 s.2,
+      )
 
 -- the span from before the innermost cut
 same_count_again : (first count : ℕ) → count ≡ first + count - first
@@ -99,15 +91,6 @@ module _ (f : Layout) (s : Stand) (stands : IsStanding f s) where
     pub widened : IsWidened (place_of f s) (place_of f outer)
     widened =
         subst (λ (cuts : List Narrowing). IsWidened (place_of f (record s { cuts = cuts })) (place_of f outer)) (sym e) (widened_at f s n ns stood.1)
-
-    pub stands_outside : IsStanding f outer
-    stands_outside = record {
-      ready = stands.ready;
-      aside = stands.aside;
-      small = stands.small;
-      some = let above = stood.1.above in let below = stood.1.below in omega arith;
-      stands = stood.2;
-    }
 
   -- one side of a cut of the span
   pub stands_inside : (n : Narrowing) (first count : ℕ) (cuts : List Narrowing) → n.first ≡ s.first → n.count ≡ s.count → cuts ≡ n ∷ s.cuts →

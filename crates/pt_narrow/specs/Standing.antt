@@ -1,5 +1,5 @@
 -- Where one owner of a whole space stands: in a span of it, in the parts of cuts.
-use Rattle.std.specs.Prelude.{◌≡◌, ◌⊎◌, ℕ, ◌+◌, ◌<◌, nat_le, ◌&&◌, not, Bool, true, false, All, List, [], ◌∷◌, map, Option, Some, None, IsTrue, if◌then◌else◌}
+use Rattle.std.specs.Prelude.{◌≡◌, ◌⊎◌, ℕ, ◌+◌, ◌<◌, nat_le, ◌&&◌, not, Bool, true, false, All, List, [], ◌∷◌, map, reverse, Option, Some, None, IsTrue, if◌then◌else◌}
 use Rattle.pt_model.specs.declared.command.Command.{Command}
 use Rattle.pt_model.specs.declared.command.What.{What}
 use Rattle.pt_model.specs.declared.command.What.TheVariants.{Map, Unmap, Lookup}
@@ -27,6 +27,10 @@ pub record Stand : Type 0 where
   pub first : ℕ
   pub count : ℕ
   pub cuts : List Narrowing
+
+-- what the fields of an owner say: its cuts are kept with the innermost last
+abbrev pub stand_of : Owned → (first count : ℕ) → (cuts : List Narrowing) → Stand
+stand_of owned first count cuts = record { owned = owned; first = first; count = count; cuts = reverse cuts }
 
 -- the same blocks, tables and top, by another span
 abbrev pub over_span : Book → (first count : ℕ) → Book

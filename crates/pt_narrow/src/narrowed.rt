@@ -37,14 +37,13 @@ pub struct Narrowed<F: Format> {
 }
 
 impl<F: Format> Model for Narrowed<F> {
-    ghost use Rattle.std.specs.Prelude.{reverse};
-    ghost use Rattle.pt_narrow.specs.Standing.{Stand, IsStanding};
+    ghost use Rattle.pt_narrow.specs.Standing.{Stand, IsStanding, stand_of};
 
     ghost Value = { Stand };
 
-    ghost view = { λ n. record { owned = n.plain; first = n.first; count = n.count; cuts = reverse n.cuts.items } };
+    ghost view = { λ n. stand_of n.plain n.first n.count n.cuts.items };
 
-    ghost invariant = { λ n. IsStanding F.layout (record { owned = n.plain; first = n.first; count = n.count; cuts = reverse n.cuts.items }) };
+    ghost invariant = { λ n. IsStanding F.layout (stand_of n.plain n.first n.count n.cuts.items) };
 }
 
 impl<F: Format> Narrowed<F> {
@@ -88,7 +87,7 @@ impl<F: Format> Narrowed<F> {
     /// Dumps the present span.
     pub(crate) fn dump(&mut self, alloc: Global) -> Result<Dump, Memory>
         ensures stays { StaysIn (place_of F.layout self.old) (place_of F.layout self.new) }
-        ensures dumps { IfOk result (λ dump. Answers (place_of F.layout self.old) (place_of F.layout self.new) what.Dump (answer.Dump dump)) }
+        ensures dumps { IfOk result (λ d. Answers (place_of F.layout self.old) (place_of F.layout self.new) what.Dump (answer.Dump d)) }
         ensures listable { IfOk result (λ dump. All (IsListable F.layout) dump.lowest) }
     {
         // that the book at rest is lawful is what says that no block crosses the span's ends

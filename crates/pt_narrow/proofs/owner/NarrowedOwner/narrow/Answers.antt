@@ -1,38 +1,51 @@
-use Rattle.std.proofs.Common.{◌≡◌, ◌-◌, [], ◌∷◌, inl, inr, reverse, refl, ap, sym, ◌∙◌, subst, arith}
+use Rattle.std.proofs.Common.{◌≡◌, ℕ, ◌-◌, [], ◌∷◌, inl, inr, reverse, refl, ap, sym, ◌∙◌, subst, arith}
 use Rattle.std.specs.Prelude.{None}
 use Rattle.std.proofs.lemmas.List.{reverse-append}
 use Rattle.pt_model.specs.Cuts.{cut_refusal}
 use Rattle.pt_narrow.specs.declared.narrowed.Narrowing.{Narrowing}
-use Rattle.pt_narrow.specs.Standing.{IsCut, Stand, place_of}
+use Rattle.pt_narrow.specs.Standing.{IsCut, Stand, place_of, stand_of}
 use Rattle.pt_narrow.proofs.Forks.{is_cut}
 use Rattle.pt_narrow.proofs.Stands.{stands_inside}
+use Rattle.pt_narrow.proofs.owner.NarrowedOwner.narrow.Given.{Over}
 use Rattle.pt_narrow.proofs.owner.NarrowedOwner.narrow.Goals as goal
+use Rattle.pt_narrow.proofs.owner.NarrowedOwner.narrow.Goals.{After-push}
+
+-- the span is cut there, and the cut is the innermost one
+module _ (g : Over) (c : After-push g) where
+  abbrev s : Stand
+  s = stand_of c.self.inside.plain c.self.inside.first c.self.inside.count c.self.inside.cuts.items
+
+  abbrev cut_at : (page : ℕ) → Narrowing
+  cut_at page = record { first = s.first; count = s.count; at = page }
+
+  admitted : cut_refusal g.F.Format.layout (place_of g.F.Format.layout s).book c.args.at ≡ None
+  admitted =
+      subst (λ (x : Stand). cut_refusal g.F.Format.layout (place_of g.F.Format.layout x).book c.args.at ≡ None) (sym c.self.view_is)
+      c.requires.admitted
+
+  cut : IsCut (place_of g.F.Format.layout s).book (cut_at c.page_under-page.result)
+  cut =
+      subst (λ page. IsCut (place_of g.F.Format.layout s).book (cut_at page)) (sym c.page_under-page.ensures.page)
+      (is_cut g.F.Format.layout (place_of g.F.Format.layout s).book c.args.at admitted)
+
+  innermost : reverse c.push.new.self.items ≡ cut_at c.page_under-page.result ∷ s.cuts
+  innermost = ap reverse c.push.ensures.items ∙ reverse-append c.self.inside.cuts.items (cut_at c.page_under-page.result ∷ [])
 
 pub invariant_of-self : goal.invariant_of-self
-invariant_of-self g c =
-    let f = g.F.Format.layout in
-    let o = c.self.inside in
-    let s : Stand = record { owned = o.plain; first = o.first; count = o.count; cuts = reverse o.cuts.items } in
-    let n : Narrowing = record { first = o.first; count = o.count; at = c.page_under-page.result } in
-    let admitted : cut_refusal f (place_of f s).book c.args.at ≡ None =
-    subst (λ (x : Stand). cut_refusal f (place_of f x).book c.args.at ≡ None) (sym c.self.view_is) c.requires.admitted in
-    let cut : IsCut (place_of f s).book n =
-    subst (λ page. IsCut (place_of f s).book (record { first = o.first; count = o.count; at = page })) (sym c.page_under-page.ensures.page) (is_cut f (place_of f s).book c.args.at admitted) in
-    let above = cut.above in
-    stands_inside f s c.self.invariant n o.first (c.page_under-page.result - o.first) (reverse c.push.new.self.items) refl refl
-    (ap reverse c.push.ensures.items ∙ reverse-append o.cuts.items (n ∷ [])) cut (inl (refl, omega arith))
+invariant_of-self g e =
+    let c = (goal.at.invariant_of-self g e).After-push in
+    let o = s g c in
+    let page = c.page_under-page.result in
+    let above = (cut g c).above in
+    stands_inside g.F.Format.layout o c.self.invariant (cut_at g c page) o.first (page - o.first) (reverse c.push.new.self.items) refl refl
+    (innermost g c) (cut g c) (inl (refl, omega arith))
 
 pub invariant_of-self-in-Right : goal.invariant_of-self-in-Right
-invariant_of-self-in-Right g c =
-    let f = g.F.Format.layout in
-    let o = c.self.inside in
-    let s : Stand = record { owned = o.plain; first = o.first; count = o.count; cuts = reverse o.cuts.items } in
-    let n : Narrowing = record { first = o.first; count = o.count; at = c.page_under-page.result } in
-    let admitted : cut_refusal f (place_of f s).book c.args.at ≡ None =
-    subst (λ (x : Stand). cut_refusal f (place_of f x).book c.args.at ≡ None) (sym c.self.view_is) c.requires.admitted in
-    let cut : IsCut (place_of f s).book n =
-    subst (λ page. IsCut (place_of f s).book (record { first = o.first; count = o.count; at = page })) (sym c.page_under-page.ensures.page) (is_cut f (place_of f s).book c.args.at admitted) in
-    let above = cut.above in
-    let below = cut.below in
-    stands_inside f s c.self.invariant n c.page_under-page.result (o.count - (c.page_under-page.result - o.first)) (reverse c.push.new.self.items) refl refl
-    (ap reverse c.push.ensures.items ∙ reverse-append o.cuts.items (n ∷ [])) cut (inr (refl, omega arith))
+invariant_of-self-in-Right g e =
+    let c = (goal.at.invariant_of-self-in-Right g e).After-push in
+    let o = s g c in
+    let page = c.page_under-page.result in
+    let above = (cut g c).above in
+    let below = (cut g c).below in
+    stands_inside g.F.Format.layout o c.self.invariant (cut_at g c page) page (o.count - (page - o.first)) (reverse c.push.new.self.items) refl
+    refl (innermost g c) (cut g c) (inr (refl, omega arith))

@@ -2,7 +2,7 @@ use Rattle.std.proofs.Common.{List, [], ◌∷◌, reverse, ap, ◌∙◌, subst
 use Rattle.std.proofs.lemmas.List.{reverse-append}
 use Rattle.pt_forks.specs.Places.{IsWidened}
 use Rattle.pt_narrow.specs.declared.narrowed.Narrowing.{Narrowing}
-use Rattle.pt_narrow.specs.Standing.{Stand, place_of}
+use Rattle.pt_narrow.specs.Standing.{Stand, place_of, stand_of}
 use Rattle.pt_narrow.proofs.Stands.{widened}
 use Rattle.pt_narrow.proofs.owner.NarrowedOwner.widen.Goals as goal
 
@@ -10,7 +10,7 @@ pub returns : goal.returns
 returns g c =
     let f = g.F.Format.layout in
     let o = c.self.inside in
-    let s : Stand = record { owned = o.plain; first = o.first; count = o.count; cuts = reverse o.cuts.items } in
+    let s : Stand = stand_of o.plain o.first o.count o.cuts.items in
     let ns : List Narrowing = reverse c.pop.new.self.items in
     let n = c.in-Some.cut in
     let outer : Stand = record { owned = o.plain; first = n.first; count = n.count; cuts = ns } in
