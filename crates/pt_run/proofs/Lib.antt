@@ -1,0 +1,2 @@
+-- What the walk of a closed space answers.
+mod AskFacts
