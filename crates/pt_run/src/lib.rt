@@ -6,6 +6,8 @@
 #![tactic(auto)]
 
 mod asks;
+mod one_owner;
 mod replies;
 
+pub use one_owner::run_plain;
 pub use replies::{Replies, reply_text};
