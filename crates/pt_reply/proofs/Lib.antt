@@ -2,9 +2,10 @@
 pub mod RestBlocks
 -- The numbers of a block's line.
 mod BlockBytes
--- What a map and an unmap answer, and what loads leave.
+-- What a map answers, and what loads leave.
 mod MapFacts
-mod UnmapFacts
+-- For other crates: what an unmap answers, and the block that a refusal names.
+pub mod UnmapFacts
 -- What a dump counts and lists.
 mod DumpFacts
 -- The run of commands in its middle.

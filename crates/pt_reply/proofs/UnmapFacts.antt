@@ -21,11 +21,11 @@ use Rattle.pt_reply.proofs.RestBlocks.{blocks_are}
 
 -- A block that is named as cut is one of the book.
 
-after_first : (t : Bool) (b : Block) (rest : Option CutRefusal) → (if not t then Some Misaligned else rest) ≡ Some (CutsEntry b) → rest ≡ Some (CutsEntry b)
+pub after_first : (t : Bool) (b : Block) (rest : Option CutRefusal) → (if not t then Some Misaligned else rest) ≡ Some (CutsEntry b) → rest ≡ Some (CutsEntry b)
 after_first true b rest e = e
 after_first false b rest e = absurd (let w : ⊥ = cc in w)
 
-after_inside : (t : Bool) (cut : Option Block) (b : Block) → (if not t then Some OutsideLease else option_map CutsEntry cut) ≡ Some (CutsEntry b) → cut ≡ Some b
+pub after_inside : (t : Bool) (cut : Option Block) (b : Block) → (if not t then Some OutsideLease else option_map CutsEntry cut) ≡ Some (CutsEntry b) → cut ≡ Some b
 after_inside true None b e = absurd (let w : ⊥ = cc in w)
 after_inside true (Some c) b e = cc
 after_inside false cut b e = absurd (let w : ⊥ = cc in w)

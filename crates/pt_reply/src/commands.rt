@@ -1,6 +1,6 @@
 //! What a single command answers, over any holder at rest.
 
-ghost use Rattle.std.specs.Prelude.{◌≡◌, ◌+◌, ◌<◌, ◌≤◌, [], length, All, IfOk, OnOk, IsTrue};
+ghost use Rattle.std.specs.Prelude.{◌≡◌, ◌+◌, ◌<◌, ◌≤◌, [], length, All, IfOk, OnOk, OnErr, IsTrue};
 ghost use Rattle.pt_model.specs.declared.command.What.TheVariants as what;
 ghost use Rattle.pt_model.specs.declared.reply.Answer.TheVariants as answer;
 ghost use Rattle.pt_model.specs.Dumps.{dump_limit, dumped};
@@ -118,7 +118,7 @@ fn list_blocks<F: Format, H: Holder<F>>(
 
 /// Dumps a span: how many blocks it has, and the lowest of them, in one walk. No block crosses its ends. After `Memory` the
 /// holder is at rest too.
-pub(crate) fn dump<F: Format, H: Holder<F>>(
+pub fn dump<F: Format, H: Holder<F>>(
     alloc: Global,
     holder: &mut H,
     span: Span,
@@ -145,6 +145,7 @@ fn dump_all<F: Format, H: Holder<F>>(alloc: Global, holder: &mut H) -> Result<Du
     requires small { IsTrue (has_small_blocks F.layout) }
     requires ready { IsReady F.layout (H.view holder.old) }
     ensures stays { Stays H.space H.aside H.alone holder.old holder.new }
+    ensures rests { RestsAsBefore F.layout (H.view holder.old) (H.view holder.new) }
     ensures dumps { IfOk result (λ dump. AnswersAs F.layout (H.view holder.old) (H.view holder.new) what.Dump (answer.Dump dump)) }
     ensures listable { IfOk result (λ dump. All (IsListable F.layout) dump.lowest) }
 {
@@ -162,7 +163,7 @@ fn release<F: Format, H: Holder<F>>(holder: &mut H)
     holder.release();
 }
 
-/// Answers a command that isn't of a fork.
+/// Answers a command that isn't of a fork. After `Memory` the holder is at rest too.
 pub fn answer<F: Format, H: Holder<F>>(
     alloc: Global,
     holder: &mut H,
@@ -175,6 +176,7 @@ pub fn answer<F: Format, H: Holder<F>>(
     requires built { IsTrue (is_built what) }
     ensures stays { Stays H.space H.aside H.alone holder.old holder.new }
     ensures answers { IfOk result (AnswersAs F.layout (H.view holder.old) (H.view holder.new) what) }
+    ensures rests { OnErr result (RestsAsBefore F.layout (H.view holder.old) (H.view holder.new)) }
     ensures tellable { IfOk result (IsTellable F.layout) }
 {
     Ok(match what {

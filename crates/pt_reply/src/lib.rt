@@ -9,6 +9,6 @@ mod commands;
 mod runner;
 mod text;
 
-pub use commands::answer;
+pub use commands::{answer, dump};
 pub use runner::run_in_turn;
 pub use text::push_reply;

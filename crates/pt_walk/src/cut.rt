@@ -22,8 +22,9 @@ pub enum CutRefused {
     CutsEntry { block: Block },
 }
 
-/// The page of an address, where it is one behind the first of a span.
-fn page_above<F: Format>(span: Span, at: u64) -> Result<u64, CutRefused>
+/// The page of an address, in bytes, where it is one behind the first of a span. Refused, in this order: `Misaligned` where
+/// the address isn't of whole pages, and `OutsideLease` where its page isn't one behind the first of the span.
+pub fn page_above<F: Format>(span: Span, at: u64) -> Result<u64, CutRefused>
     ensures found { IfOk result (λ page. IsCutPage F.layout span.first span.count at page) }
     ensures refused { IfErr result (λ why. RefusesCut F.layout span.first span.count at why) }
 {

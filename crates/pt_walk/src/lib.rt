@@ -19,7 +19,7 @@ mod walker;
 mod way;
 
 pub use block::block_of;
-pub use cut::{CutRefused, cut_at, cut_page};
+pub use cut::{CutRefused, cut_at, cut_page, page_above};
 pub use numbers::{entry_bits, entry_number, spine_end};
 pub use range::{Met, Stop, Under, climb, descend, entry_end, first_at, first_below, look_below};
 pub use translate::{OutsideLease, lookup};
