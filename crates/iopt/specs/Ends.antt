@@ -2,7 +2,7 @@
 use Rattle.std.specs.Prelude.{ℕ, List, [], ◌++◌, codes}
 use Rattle.pt_model.specs.Numbers.{decimal}
 use Rattle.pt_script.specs.declared.error.Reason.{Reason}
-use Rattle.pt_script.specs.declared.error.Reason.TheVariants.{Ended, Word, Shape, Argument, Limit, After, Unbuilt}
+use Rattle.pt_script.specs.declared.error.Reason.TheVariants.{Ended, Word, Shape, Argument, Limit, After}
 use Rattle.iopt.specs.declared.status.Status.{Status}
 use Rattle.iopt.specs.declared.status.Status.TheVariants.{Done, Usage, Refused, TooLong, ReadFault, WriteFault, Memory}
 
@@ -22,7 +22,6 @@ reason_text Shape = codes "shape"
 reason_text Argument = codes "argument"
 reason_text Limit = codes "limit"
 reason_text After = codes "after"
-reason_text Unbuilt = codes "unbuilt"
 
 abbrev pub status_line : Status → List ℕ
 status_line Done = []

@@ -1,3 +1,4 @@
 pub mod Ends
-pub mod Stage
+pub mod Words
+pub mod Runs
 pub mod Top

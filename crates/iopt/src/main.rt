@@ -16,10 +16,9 @@ ghost use Rattle.iopt.specs.Top.{IsUnread, IsUnreadBy};
 mod book_tests;
 #[cfg(test)]
 mod dump_tests;
-mod runner;
+mod running;
 #[cfg(test)]
 mod script_tests;
-mod stage;
 mod status;
 #[cfg(test)]
 mod tests;

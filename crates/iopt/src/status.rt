@@ -53,7 +53,6 @@ fn reason_text(reason: Reason) -> &'static [u8]
         Reason::Argument => b"argument",
         Reason::Limit => b"limit",
         Reason::After => b"after",
-        Reason::Unbuilt => b"unbuilt",
     }
 }
 

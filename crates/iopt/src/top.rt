@@ -1,12 +1,16 @@
 //! The top call: all that the program does.
 
-ghost use Rattle.std.specs.Prelude.{◌≡◌, ◌≢◌, ◌↔◌, ◌-◌, ◌^◌, ◌<◌, ◌≤◌};
+ghost use Rattle.std.specs.Prelude.{◌≡◌, ℕ, ◌↔◌, ◌-◌, ◌^◌, ◌<◌, ◌≤◌, List};
+ghost use Rattle.std.specs.Io.KnownBytes.{Appends};
+ghost use Rattle.pt_stream.specs.Bytes.{AppendsPart};
 ghost use Rattle.pt_stream.specs.Causes.{Rose};
-ghost use Rattle.iopt.specs.Top.{accepted, input_limit, read_status, script_status, CanRun, IsCutOff, IsDone, IsDoneWithMemory, IsLong, PutsNothing, RefusedAs};
+ghost use Rattle.iopt.specs.Words.{AskToMake, AskToRun, IsAccepted};
+ghost use Rattle.iopt.specs.Runs.{IsMadeText};
+ghost use Rattle.iopt.specs.Top.{input_limit, read_status, script_status, CanRun, IsDoneWithMemory, IsLong, IsMadeEnd, IsUntouched, PutAsAsked, PutReplies, PutsNothing, RefusedAs};
 
-use crate::stage::{replies_to, what_runs_is_not_refused};
+use crate::running::{replies_to, scripts_are_not_refused, summary_of};
 use crate::status::Status;
-use crate::words::Words;
+use crate::words::{Task, Words};
 use pt_script::ScriptError;
 use pt_stream::{Failed, ReadError, Sink, Source, read_all, write_all};
 use std::alloc::Global;
@@ -35,39 +39,25 @@ fn script_status(error: ScriptError) -> Status
     }
 }
 
-/// Does all that the program does: it reads a script from the source, runs it, and puts the replies into
-/// the sink. The text of the replies is built whole before the first byte is put.
-///
-/// `Done` says that the whole input was read and all replies were put; `Memory` is want of memory, and puts
-/// nothing. There is no other end where the words are `run`, the input is within the limit and the text of a
-/// script that runs, and no count of faults rises. `Usage` comes exactly where the words aren't the one word
-/// `run`, before the source is touched; `TooLong` exactly where more than 1,048,576 bytes were taken;
-/// `ReadFault` and `WriteFault` only where the source's and the sink's counts of faults rose; `Refused` where
-/// the input is no script, or has a line that the program doesn't run yet, at the first such line.
-pub fn run<S: Source, K: Sink>(alloc: Global, words: &Words, source: &mut S, sink: &mut K) -> Status
-    ensures usage { (result ≡ Status.Usage) ↔ (words.now ≢ accepted) }
-    ensures untouched { result ≡ Status.Usage →
-        (S.left source.new ≡ S.left source.old) × (S.given source.new ≡ S.given source.old) × (S.faults source.new ≡ S.faults source.old) }
-    ensures too_long { words.now ≡ accepted → S.given source.new < 2 ^ 64 - 1 →
+/// Reads a script, runs it, and puts the replies.
+fn run_input<S: Source, K: Sink>(alloc: Global, source: &mut S, sink: &mut K) -> Status
+    ensures accepted { ¬ (result ≡ Status.Usage) }
+    ensures too_long { S.given source.new < 2 ^ 64 - 1 →
         ((result ≡ Status.TooLong) ↔ (input_limit < S.given source.new - S.given source.old)) }
     ensures long { result ≡ Status.TooLong → IsLong (S.left source.old) }
     ensures read_fault { result ≡ Status.ReadFault → Rose (S.faults source.old) (S.faults source.new) }
     ensures refused { RefusedAs (S.left source.old) (S.left source.new) result }
     ensures write_fault { result ≡ Status.WriteFault → Rose (K.faults sink.old) (K.faults sink.new) }
     ensures cut_off { result ≡ Status.WriteFault →
-        IsCutOff (S.left source.old) (S.left source.new) (K.held sink.old) (K.held sink.new) }
-    ensures done { result ≡ Status.Done → IsDone (S.left source.old) (S.left source.new) (K.held sink.old) (K.held sink.new) }
-    ensures complete { words.now ≡ accepted → CanRun (S.left source.old) →
-        ¬ Rose (S.faults source.old) (S.faults source.new) → ¬ Rose (K.faults sink.old) (K.faults sink.new) →
-        IsDoneWithMemory result }
+        PutReplies (S.left source.old) (S.left source.new) (AppendsPart (K.held sink.old) (K.held sink.new)) }
+    ensures done { result ≡ Status.Done → PutReplies (S.left source.old) (S.left source.new) (Appends (K.held sink.old) (K.held sink.new)) }
+    ensures complete { CanRun (S.left source.old) → ¬ Rose (S.faults source.old) (S.faults source.new) →
+        ¬ Rose (K.faults sink.old) (K.faults sink.new) → IsDoneWithMemory result }
     ensures quiet { PutsNothing result (K.held sink.old) (K.held sink.new) }
     ensures source_faults { S.faults source.old ≤ S.faults source.new }
     ensures sink_faults { K.faults sink.old ≤ K.faults sink.new }
 {
-    what_runs_is_not_refused();
-    if !words.is_run() {
-        return Status::Usage;
-    }
+    scripts_are_not_refused();
     let text = match read_all(alloc, source, INPUT_LIMIT) {
         Ok(text) => text,
         Err(error) => return read_status(error),
@@ -79,5 +69,62 @@ pub fn run<S: Source, K: Sink>(alloc: Global, words: &Words, source: &mut S, sin
     match write_all(sink, &replies) {
         Ok(()) => Status::Done,
         Err(Failed) => Status::WriteFault,
+    }
+}
+
+/// Makes the script of a number, runs it, and puts the summary.
+fn run_made<K: Sink>(alloc: Global, number: u64, sink: &mut K) -> Status
+    ensures ends { IsMadeEnd result }
+    ensures write_fault { result ≡ Status.WriteFault → Rose (K.faults sink.old) (K.faults sink.new) }
+    ensures cut_off { result ≡ Status.WriteFault →
+        (text : List ℕ) × IsMadeText number text × AppendsPart (K.held sink.old) (K.held sink.new) text }
+    ensures done { result ≡ Status.Done → (text : List ℕ) × IsMadeText number text × Appends (K.held sink.old) (K.held sink.new) text }
+    ensures quiet { PutsNothing result (K.held sink.old) (K.held sink.new) }
+    ensures sink_faults { K.faults sink.old ≤ K.faults sink.new }
+{
+    let Ok(text) = summary_of(alloc, number) else {
+        return Status::Memory
+    };
+    match write_all(sink, &text) {
+        Ok(()) => Status::Done,
+        Err(Failed) => Status::WriteFault,
+    }
+}
+
+/// Does all that the program does. With the words `run`, or `run --plain`, it reads a script from the source, runs it, and
+/// puts the replies into the sink; with `make` and a number it makes that number's script, runs it, and puts the summary,
+/// and leaves the source as it was. What is put is built whole before its first byte is.
+///
+/// `Done` says that the whole input was read, where there is one, and all was put; `Memory` is want of memory, and puts
+/// nothing. There is no other end where the input is within the limit and the text of a script, and no count of faults
+/// rises. `Usage` comes exactly where the words are none of these, before the source is touched; `TooLong` exactly where
+/// more than 1,048,576 bytes were taken; `ReadFault` and `WriteFault` only where the source's and the sink's counts of
+/// faults rose; `Refused` where the input, read whole, is no script, at its first line that none has after those before it.
+pub fn run<S: Source, K: Sink>(alloc: Global, words: &Words, source: &mut S, sink: &mut K) -> Status
+    ensures usage { (result ≡ Status.Usage) ↔ (¬ IsAccepted words.now) }
+    ensures untouched { ¬ AskToRun words.now →
+        IsUntouched (S.left source.old) (S.left source.new) (S.given source.old) (S.given source.new) (S.faults source.old) (S.faults source.new) }
+    ensures too_long { AskToRun words.now → S.given source.new < 2 ^ 64 - 1 →
+        ((result ≡ Status.TooLong) ↔ (input_limit < S.given source.new - S.given source.old)) }
+    ensures long { result ≡ Status.TooLong → IsLong (S.left source.old) }
+    ensures read_fault { result ≡ Status.ReadFault → Rose (S.faults source.old) (S.faults source.new) }
+    ensures refused { RefusedAs (S.left source.old) (S.left source.new) result }
+    ensures write_fault { result ≡ Status.WriteFault → Rose (K.faults sink.old) (K.faults sink.new) }
+    ensures cut_off { result ≡ Status.WriteFault →
+        PutAsAsked words.now (S.left source.old) (S.left source.new) (AppendsPart (K.held sink.old) (K.held sink.new)) }
+    ensures done { result ≡ Status.Done →
+        PutAsAsked words.now (S.left source.old) (S.left source.new) (Appends (K.held sink.old) (K.held sink.new)) }
+    ensures complete { AskToRun words.now → CanRun (S.left source.old) →
+        ¬ Rose (S.faults source.old) (S.faults source.new) → ¬ Rose (K.faults sink.old) (K.faults sink.new) →
+        IsDoneWithMemory result }
+    ensures made { (number : ℕ) → AskToMake words.now number → IsMadeEnd result }
+    ensures quiet { PutsNothing result (K.held sink.old) (K.held sink.new) }
+    ensures source_faults { S.faults source.old ≤ S.faults source.new }
+    ensures sink_faults { K.faults sink.old ≤ K.faults sink.new }
+{
+    match words.task() {
+        None => Status::Usage,
+        Some(Task::Run) => run_input(alloc, source, sink),
+        Some(Task::Make { number }) => run_made(alloc, number, sink),
     }
 }

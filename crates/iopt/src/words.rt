@@ -1,10 +1,21 @@
 //! The words of the command line.
 
-ghost use Rattle.std.specs.Prelude.{◌≡◌, ◌∷◌, [], ◌++◌, ◌↔◌, codes, IsTrue, OnOk, OnErr};
+ghost use Rattle.std.specs.Prelude.{◌≡◌, ◌∷◌, [], ◌++◌, OnOk, OnErr};
+ghost use Rattle.iopt.specs.Words.{AskFor};
 
 use pt_num::Memory;
+use pt_stream::read_dec;
 use std::alloc::Global;
 use std::marker::Model;
+
+/// What a command line asks for.
+#[derive(Clone, Copy, Debug, PartialEq, Eq)]
+pub enum Task {
+    /// To run the input, a script.
+    Run,
+    /// To make the script of a number, and to run it.
+    Make { number: u64 },
+}
 
 /// The words of a command line, seen as a list of words, each a list of bytes.
 #[derive(Drop)]
@@ -44,19 +55,35 @@ impl Words {
         Ok(())
     }
 
-    /// Whether the only word is `run`.
-    pub fn is_run(&self) -> bool
-        ensures { IsTrue result ↔ (self.now ≡ codes "run" ∷ []) }
+    /// What the words ask for. `None` comes exactly where the program doesn't accept them.
+    pub fn task(&self) -> Option<Task>
+        ensures { AskFor self.now result }
     {
         match self.words.as_slice() {
-            [word] => is_run(word.as_str()),
-            _ => false,
+            [word] => task_of_one(word.as_str()),
+            [first, second] => task_of_two(first.as_str(), second.as_str()),
+            _ => None,
         }
     }
 }
 
-fn is_run(word: &str) -> bool
-    ensures { IsTrue result ↔ (word.now ≡ codes "run") }
+/// What one word asks for.
+fn task_of_one(word: &str) -> Option<Task>
+    ensures { AskFor (word.now ∷ []) result }
 {
-    word == "run"
+    if word == "run" { Some(Task::Run) } else { None }
+}
+
+/// What two words ask for.
+fn task_of_two(first: &str, second: &str) -> Option<Task>
+    ensures { AskFor (first.now ∷ second.now ∷ []) result }
+{
+    if first == "run" && second == "--plain" {
+        return Some(Task::Run);
+    }
+    if first != "make" {
+        return None;
+    }
+    let number = read_dec(second.as_bytes())?;
+    Some(Task::Make { number })
 }

@@ -19,7 +19,6 @@ stops_with s rest reasons.Argument p r tail = (p.0, record { raw = r.raw; more =
 stops_with s rest reasons.Limit p r tail = (p.0, record { raw = r.raw; more = tail; cut = refl; one_line = r.one_line; refused = r.refused })
 stops_with s rest reasons.After p r tail = absurd r.refused
 stops_with s rest reasons.Ended p r tail = absurd r.refused
-stops_with s rest reasons.Unbuilt p r tail = absurd r.refused
 
 stops_over : (s : State) (rest : List ℕ) (reason : Reason) → StopsAt s rest reason → reason ≡ reasons.After → s.place ≡ Over
 stops_over s rest reasons.After p e = p.0
@@ -28,7 +27,6 @@ stops_over s rest reasons.Shape p e = cc
 stops_over s rest reasons.Argument p e = cc
 stops_over s rest reasons.Limit p e = cc
 stops_over s rest reasons.Ended p e = cc
-stops_over s rest reasons.Unbuilt p e = cc
 
 pub is_first : HasOneNumber decimal → HasOneNumber hexadecimal → (text : List ℕ) (number : ℕ) (reason : Reason) (b : IsBadAt text number reason) → IsFirst text number reason b
 is_first d x text number reason b =

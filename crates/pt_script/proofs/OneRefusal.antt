@@ -5,7 +5,7 @@ use Rattle.pt_model.specs.Numbers.{decimal, hexadecimal, HasOneNumber}
 use Rattle.pt_script.specs.declared.line.Keyword.{Keyword}
 use Rattle.pt_script.specs.declared.line.Line.{Line}
 use Rattle.pt_script.specs.declared.error.Reason.{Reason}
-use Rattle.pt_script.specs.declared.error.Reason.TheVariants.{Ended, Word, Shape, Argument, Limit, After, Unbuilt}
+use Rattle.pt_script.specs.declared.error.Reason.TheVariants.{Ended, Word, Shape, Argument, Limit, After}
 use Rattle.pt_script.specs.Grammar.{Place, State, start, may_stand, is_within, moved, after}
 use Rattle.pt_script.specs.Lines.{keyword_of, text_of, is_stated}
 use Rattle.pt_script.specs.Text.{script_text, HasNoLine, HasShape, Begins, Refuses, IsRefused, StopsAt, all_stated, IsBadAt}
@@ -40,10 +40,8 @@ module _ (d : HasOneNumber decimal) (x : HasOneNumber hexadecimal) where
   one_reason s raw Limit Argument (l, e, stated, stands, out) (k, a, h, none) = absurd (none l stated (sym (same_keyword s.place raw k l stated a e)) e)
   one_reason s raw Ended q a b = absurd a
   one_reason s raw After q a b = absurd a
-  one_reason s raw Unbuilt q a b = absurd a
   one_reason s raw r Ended a b = absurd b
   one_reason s raw r After a b = absurd b
-  one_reason s raw r Unbuilt a b = absurd b
 
   one_refused : (s : State) (rest : List ℕ) (r q : Reason) → IsRefused s rest r → IsRefused s rest q → r ≡ q
   one_refused s rest r q a b =

@@ -100,7 +100,6 @@ not_refused d x s raw reasons.Limit l (m, spelled, stated, may, out) e h stands 
     out (subst (λ n. IsTrue (is_within n s)) same within)
 not_refused d x s raw reasons.Ended l r e h stands within = r
 not_refused d x s raw reasons.After l r e h stands within = r
-not_refused d x s raw reasons.Unbuilt l r e h stands within = r
 
 -- A line feed is found.
 feed_step : (b : Bool) (p n : ℕ) → p ≤ n → cond (not b) (1 + p) 0 ≤ n + 1
@@ -158,7 +157,6 @@ stops_none d x s t rest reasons.Word p ms h a o e = in_line d x s t rest reasons
 stops_none d x s t rest reasons.Shape p ms h a o e = in_line d x s t rest reasons.Shape p.0 p.1 ms h a o e
 stops_none d x s t rest reasons.Argument p ms h a o e = in_line d x s t rest reasons.Argument p.0 p.1 ms h a o e
 stops_none d x s t rest reasons.Limit p ms h a o e = in_line d x s t rest reasons.Limit p.0 p.1 ms h a o e
-stops_none d x s t rest reasons.Unbuilt p ms h a o e = in_line d x s t rest reasons.Unbuilt p.0 p.1 ms h a o e
 
 pub bad_is_none : HasOneNumber decimal → HasOneNumber hexadecimal → (text : List ℕ) (number : ℕ) (reason : Reason) → IsBadAt text number reason
     → (ls : List Line) → IsTrue (is_lawful ls) → text ≢ script_text ls

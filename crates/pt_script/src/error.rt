@@ -22,8 +22,6 @@ pub enum Reason {
     Limit,
     /// The line follows the last `end`.
     After,
-    /// The line is of the language, and what runs scripts doesn't run it. `parse` never answers this.
-    Unbuilt,
 }
 
 /// Why no script was read.

@@ -1,13 +1,16 @@
-use Rattle.std.proofs.Common.{ℕ, List, subst}
-use Rattle.iopt.specs.Stage.{IsRefusedFor}
-use Rattle.iopt.proofs.StageFacts.{script_ends}
+use Rattle.std.proofs.Common.{subst, Some}
+use Rattle.std.specs.Io.KnownBytes.{Appends}
+use Rattle.pt_stream.specs.Bytes.{AppendsPart}
+use Rattle.iopt.specs.Words.{AskFor, AskToMake}
+use Rattle.iopt.proofs.PutFacts.{put_made}
 use Rattle.iopt.proofs.top.run.Goals as goal
 
-pub returns-in-Err-replies_to-clause-complete : goal.returns-in-Err-replies_to-clause-complete
-returns-in-Err-replies_to-clause-complete g c = λ words can quiet still.
-    let error = c.in-Err-replies_to.error in
-    let refused : IsRefusedFor c.in-Ok.text.items error =
-    subst (λ (bytes : List ℕ). IsRefusedFor bytes error) c.deref.ensures.value c.in-Err-replies_to.ensures.refused in
-    rw c.script_status.ensures
-    (script_ends c.what_runs_is_not_refused.ensures (g.S.Source.left c.args.source.now) (g.S.Source.left c.read_all.new.source)
-    c.in-Ok.text.items error can c.in-Ok.ensures.bytes refused)
+pub returns-in-Some-Make-clause-cut_off : goal.returns-in-Some-Make-clause-cut_off
+returns-in-Some-Make-clause-cut_off g c fails =
+    put_made c.args.words.now c.in-Some-Make.number (g.S.Source.left c.args.source.now) (g.S.Source.left c.args.source.now)
+    (AppendsPart (g.K.Sink.held c.args.sink.now) (g.K.Sink.held c.run_made.new.sink)) (subst (λ t. AskFor c.args.words.now (Some t)) c.in-Some-Make.field-0-is c.in-Some-Make.ensures) (c.run_made.ensures.cut_off fails)
+
+pub returns-in-Some-Make-clause-done : goal.returns-in-Some-Make-clause-done
+returns-in-Some-Make-clause-done g c done =
+    put_made c.args.words.now c.in-Some-Make.number (g.S.Source.left c.args.source.now) (g.S.Source.left c.args.source.now)
+    (Appends (g.K.Sink.held c.args.sink.now) (g.K.Sink.held c.run_made.new.sink)) (subst (λ t. AskFor c.args.words.now (Some t)) c.in-Some-Make.field-0-is c.in-Some-Make.ensures) (c.run_made.ensures.done done)
