@@ -8,5 +8,3 @@ mod MapFacts
 pub mod UnmapFacts
 -- What a dump counts and lists.
 mod DumpFacts
--- The run of commands in its middle.
-mod RunFacts

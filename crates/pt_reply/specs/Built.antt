@@ -1,9 +1,7 @@
 -- The commands that are run one by one, with no fork.
-use Rattle.std.specs.Prelude.{ℕ, Bool, true, false, List}
-use Rattle.std.specs.List.{list_all}
+use Rattle.std.specs.Prelude.{ℕ, Bool, true, false}
 use Rattle.pt_model.specs.declared.command.What.{What}
 use Rattle.pt_model.specs.declared.command.What.TheVariants.{Map, Unmap, Lookup, Dump, Release}
-use Rattle.pt_model.specs.declared.command.Command.{Command}
 use Rattle.pt_model.specs.Layout.{Layout}
 use Rattle.pt_model.specs.Run.{Machine}
 
@@ -15,9 +13,6 @@ is_built (Lookup va) = true
 is_built Dump = true
 is_built Release = true
 is_built _ = false
-
-abbrev pub are_built : List Command → Bool
-are_built commands = list_all (λ c. is_built c.what) commands
 
 -- what runs a script of this format, with so many levels from the start and so many frames
 abbrev pub machine : Layout → (levels frames : ℕ) → Machine

@@ -1,7 +1,6 @@
--- What each command does to a holder at rest, by the book machine, and a run in its middle.
-use Rattle.std.specs.Prelude.{◌≡◌, ℕ, ◌==◌, false, Bool, All, List, [], ◌∷◌, ◌++◌, Some, IsTrue, take, if◌then◌else◌}
+-- What each command does to a holder at rest, by the book machine.
+use Rattle.std.specs.Prelude.{◌≡◌, ℕ, ◌==◌, false, Bool, All, List, [], ◌∷◌, ◌++◌, Some, take, if◌then◌else◌}
 use Rattle.pt_model.specs.declared.block.Block.{Block}
-use Rattle.pt_model.specs.declared.command.Command.{Command}
 use Rattle.pt_model.specs.declared.command.What.{What}
 use Rattle.pt_model.specs.declared.command.What.TheVariants.{Map}
 use Rattle.pt_model.specs.declared.reply.Answer.{Answer}
@@ -9,14 +8,13 @@ use Rattle.pt_model.specs.Layout.{Layout}
 use Rattle.pt_model.specs.Book.{Book}
 use Rattle.pt_model.specs.Cuts.{crosses, spanning}
 use Rattle.pt_model.specs.Dumps.{blocks_inside, dump_limit}
-use Rattle.pt_model.specs.Run.{Machine, ByAccount, answer_to, at_start, book_after, lacks_frames, replies_from, state_after}
-use Rattle.pt_model.specs.Text.{replies_text}
+use Rattle.pt_model.specs.Run.{Machine, answer_to, book_after, lacks_frames}
 use Rattle.pt_view.specs.declared.view.View.{View}
 use Rattle.pt_view.specs.declared.view.Piece.{Piece}
 use Rattle.pt_view.specs.Views.{IsAtRest, book_of}
 use Rattle.pt_walk.specs.declared.way.Way.{Way}
 use Rattle.pt_walk.specs.RangeWalks.{left_of}
-use Rattle.pt_reply.specs.Built.{are_built, machine}
+use Rattle.pt_reply.specs.Built.{machine}
 
 -- the blocks whose first words are among these pieces: all blocks of a view at rest
 abbrev pub blocks_of : List Piece → List Block
@@ -70,16 +68,3 @@ ListsNext old block new = (left : List Block) → take dump_limit (new ++ left) 
 -- the blocks that are left of a walk
 abbrev pub left_in : View → Way → List Block
 left_in v w = left_of w (blocks_of v.pieces)
-
--- A run.
-
--- With this view and text and these commands left: the text and the replies to them are the old text and the replies to
--- all commands, and they lead to the same book.
-pub record Runs (f : Layout) (v w : View) (commands rest : List Command) (old new : List ℕ) : Type 0 where
-  pub ready : IsReady f w
-  pub machine : machine_in f w ≡ machine_in f v
-  pub built : IsTrue (are_built rest)
-  pub replies : new ++ replies_text f (replies_from (machine_in f v) ByAccount (at_start (book_in w)) rest)
-      ≡ old ++ replies_text f (replies_from (machine_in f v) ByAccount (at_start (book_in v)) commands)
-  pub state : state_after (machine_in f v) ByAccount (at_start (book_in w)) rest
-      ≡ state_after (machine_in f v) ByAccount (at_start (book_in v)) commands
