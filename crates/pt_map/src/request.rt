@@ -414,6 +414,9 @@ pub fn map<F: Format, H: Holder<F>>(
     }
     if is_under_one::<F>(1, extent) {
         let log2 = extent.size_at::<F>(0);
+        if log2 == 0 {
+            return map_extent::<F, H>(holder, extent, 0, 0, true);
+        }
         return map_extent::<F, H>(holder, extent, 0, log2, true);
     }
     let log2 = extent.first_size::<F>();
