@@ -3,7 +3,7 @@
 ghost use Rattle.std.specs.Prelude.{◌≡◌, IfOk, IfErr};
 ghost use Rattle.iopt.specs.Runs.{IsAnswered, IsMadeText, IsRefusedFor, ScriptsAreNotRefused, run_text};
 
-use pt_made::{generate, summary_text};
+use pt_made::{generate, made_scripts_lack_no_frames, summary_text};
 use pt_num::Memory;
 use pt_run::{reply_text, run_plain};
 use pt_script::{Script, ScriptError, bad_is_no_script, parse};
@@ -33,6 +33,7 @@ pub(crate) fn replies_to(alloc: Global, text: &[u8]) -> Result<Vec<u8>, ScriptEr
 pub(crate) fn summary_of(alloc: Global, number: u64) -> Result<Vec<u8>, Memory>
     ensures { IfOk result (λ text. IsMadeText number text.items) }
 {
+    made_scripts_lack_no_frames();
     let script = generate(alloc, number)?;
     let replies = run_plain(alloc, &script)?;
     summary_text(alloc, number, &script, replies.all())

@@ -41,11 +41,11 @@ page_below f x = elim (cases_lt f.input f.granule) [
       shr_below (x % 2 ^ f.input) (f.input - f.granule) f.granule (omega (arith, same, mod_below x (2 ^ f.input) (pow_pos f.input)))
 ]
 
-if_some : (b : Bool) (x y : ℕ) (r : ℕ × ℕ) → (if b then Some (x, y) else None) ≡ Some r → (b ≡ true) × (x ≡ r.0) × (y ≡ r.1)
+pub if_some : (b : Bool) (x y : ℕ) (r : ℕ × ℕ) → (if b then Some (x, y) else None) ≡ Some r → (b ≡ true) × (x ≡ r.0) × (y ≡ r.1)
 if_some true x y r e = (refl, cc, cc)
 if_some false x y r e = cc
 
-range_space : (f : Layout) (va len : ℕ) (r : ℕ × ℕ) → range_at f va len ≡ Some r → r.0 + r.1 ≤ input_pages f
+pub range_space : (f : Layout) (va len : ℕ) (r : ℕ × ℕ) → range_at f va len ≡ Some r → r.0 + r.1 ≤ input_pages f
 range_space f va len r e =
     let h = if_some _ (page_under f va) (len / 2 ^ f.granule) r e in
     let a = and_parts (has_page f va) _ h.0 in

@@ -12,7 +12,7 @@ use Rattle.pt_model.specs.Tiling.{tiling}
 use Rattle.pt_format.specs.Laws.{IsLayout}
 use Rattle.pt_format.specs.Words.{MayBeLeaves}
 use Rattle.pt_tile.specs.declared.extent.Extent.{Extent}
-use Rattle.pt_tile.specs.Extents.{IsFirstTo, IsRun, block, extent_of, first_size, from, tables_below, tables_of, tiles, under_entry, up_to}
+use Rattle.pt_tile.specs.Extents.{IsExtent, IsFirstTo, IsRun, block, extent_of, first_size, from, tables_below, tables_of, tiles, under_entry, up_to}
 use Rattle.pt_tile.specs.Runs.{run_blocks}
 use Rattle.pt_tile.proofs.FirstParts.{first_split, first_to}
 use Rattle.pt_tile.proofs.Levels.{size_low}
@@ -20,7 +20,7 @@ use Rattle.pt_tile.proofs.RunTilings.{run_shifted, run_tiles}
 use Rattle.pt_view.specs.declared.view.View.{View}
 use Rattle.pt_view.specs.Calls.{left}
 use Rattle.pt_map.specs.Filled.{Filled, Fills, HasRoom, IsDeeper, MayFill, MayStore, MayStoreRun, Spends, SpendsOn, StoresRun, next_table}
-use Rattle.pt_map.specs.Stands.{IsEntryExtent}
+use Rattle.pt_map.specs.Stands.{IsEntryExtent, IsRunOf}
 use Rattle.pt_map.proofs.RunEntries.{all_leaves}
 use Rattle.pt_map.proofs.FilledParts.{below_inside, below_rest, filled_left, filled_none, filled_on, knows_left, may_first, may_rest, needs_parts, room_into}
 use Rattle.pt_map.proofs.NeededTables.{needs_append, below_has, has_below}
@@ -105,6 +105,15 @@ module _ {f : Layout} (good : IsLayout f) {tells : Type 0} {v w : View} {x rest 
         | inr new ↦ fills.knows p (below_has f level first p new low)
       ];
     })
+
+-- a run that is all of an extent
+pub all_run : {f : Layout} → IsLayout f → {x : Extent} → IsExtent f x → {log2 level count : ℕ} → log2 ≡ first_size f x → f.index * level ≤ log2 → IsRun f x count →
+    x.end - x.first ≡ count * 2 ^ log2 % 2 ^ 64 → IsRunOf f x log2 level count
+all_run {f} good {x} extent {log2} {level} {count} e high run all =
+    let some = extent.some in
+    let shifted = run_shifted good extent run log2 e in
+    let size : count * 2 ^ log2 ≡ count * 2 ^ first_size f x = ap (λ (j : ℕ). count * 2 ^ j) e in
+    record { size = e; high = high; run = run; whole = omega (arith, shifted, size, all, some) }
 
 -- A run of blocks of the first one's size, which stands in the table of the level.
 module _ {f : Layout} (good : IsLayout f) {v : View} {x : Extent} {level : ℕ} (may : MayStore f v x level) (k : ℕ) (e : k ≡ first_size f x) (high : f.index * level ≤ k) {count : ℕ} (is : IsRun f x count) where

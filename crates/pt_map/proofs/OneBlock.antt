@@ -18,7 +18,8 @@ use Rattle.std.proofs.lemmas.Nat.{div-add-mod'}
 use Rattle.pt_tile.proofs.RunTilings.{run_shifted}
 use Rattle.pt_tile.proofs.FirstSizes.{size_greatest}
 use Rattle.pt_tile.proofs.UnderEntries.{first_tile}
-use Rattle.pt_tile.specs.Extents.{IsExtent, IsRun, first_size, from, tables_below, tiles, block}
+use Rattle.pt_model.proofs.Quotients.{wider_entry}
+use Rattle.pt_tile.specs.Extents.{IsExtent, IsRun, LiesUnderEntry, first_size, from, tables_below, tiles, block}
 use Rattle.pt_map.proofs.FillTurns.{may_run, none_below, fills_run}
 use Rattle.pt_map.specs.Stands.{IsBlockOf, IsRunOf}
 use Rattle.pt_map.proofs.FramesDrawn.{gathered_none}
@@ -52,6 +53,13 @@ block_end f good x part level k e one whole =
     let aligned : x.first % 2 ^ (f.index * level) ≡ 0 = subst (λ (j : ℕ). x.first % 2 ^ j ≡ 0) (sym e ∙ one) (size_greatest good part).legal.first_aligned in
     let ends : x.end ≡ x.first + 2 ^ (f.index * level) = subst (λ (j : ℕ). x.end ≡ x.first + 2 ^ j) one whole in
     ends_there x.first x.end (2 ^ (f.index * level)) aligned ends
+
+-- so it lies under one table of that level
+pub block_under : (f : Layout) → IsLayout f → (x : Extent) → IsExtent f x → (level k : ℕ) → k ≡ first_size f x → k ≡ f.index * level → x.end ≡ x.first + 2 ^ k →
+    LiesUnderEntry f x (level + 1)
+block_under f good x part level k e one whole =
+    let end = block_end f good x part level k e one whole in
+    let wide = wider_entry f x.first level (level + 1) (omega arith) in omega arith
 
 -- a block is a run of one
 pub block_run : {f : Layout} → IsLayout f → {x : Extent} → IsExtent f x → {log2 level : ℕ} → IsBlockOf f x log2 level → IsRunOf f x log2 level 1

@@ -1,6 +1,6 @@
 //! The writing of an extent: its tables are linked where they are absent, and its blocks are stored.
 
-ghost use Rattle.std.specs.Prelude.{◌≡◌, ℕ, ◌*◌, ◌<◌, List, [], ◌∷◌, length};
+ghost use Rattle.std.specs.Prelude.{◌≡◌, ℕ, ◌*◌, ◌<◌, IsTrue, List, [], ◌∷◌, length};
 ghost use Rattle.pt_model.specs.declared.position.Position.{Position};
 ghost use Rattle.pt_model.specs.Sets.{IsAmong};
 ghost use Rattle.pt_format.specs.Words.{GoBy};
@@ -44,9 +44,9 @@ fn fill_first<F: Format, H: Holder<F>>(holder: &mut H, level: u32, extent: Exten
     ensures to { IsFirstTo F.layout level extent result }
     ensures fills { Fills F.layout H.tells (H.view holder.old) (H.view holder.new) (up_to extent result) level }
 {
-    let log2 = extent.first_size::<F>();
+    let log2 = extent.size_at::<F>(level);
     if log2 >= F::INDEX * level {
-        let count = extent.run::<F>(log2);
+        let count = extent.run_under::<F>(level, log2);
         let run = F::word_run(level, log2, extent.out, extent.prot, count);
         write_run::<F, H>(holder, level, extent.block(log2), run);
         extent.first + (run.blocks << log2)
@@ -70,7 +70,48 @@ fn fill_entry<F: Format, H: Holder<F>>(holder: &mut H, level: u32, extent: Exten
     holder.leave();
 }
 
+/// Writes an extent under `one` entry of the path's last table, which is then of level 1, or any extent from that table.
+#[inline(always)]
+pub(crate) fn fill_by<F: Format, H: Holder<F>>(
+    holder: &mut H,
+    level: u32,
+    extent: Extent,
+    one: bool,
+)
+    requires may { MayFill F.layout (H.view holder.old) extent level }
+    requires one { IsTrue one → (level ≡ 1) × IsEntryExtent F.layout extent level }
+    ensures stays { Stays H.space H.aside H.alone holder.old holder.new }
+    ensures fills { Fills F.layout H.tells (H.view holder.old) (H.view holder.new) extent level }
+{
+    if one {
+        go_into::<F, H>(holder, level, extent.first);
+        fill_lowest::<F, H>(holder, level - 1, extent);
+        holder.leave();
+    } else {
+        fill::<F, H>(holder, level, extent);
+    }
+}
+
+/// Writes an extent from the path's last table, of this level, by one call where its blocks are equal.
+#[inline(always)]
+fn fill_lowest<F: Format, H: Holder<F>>(holder: &mut H, level: u32, extent: Extent)
+    requires { MayFill F.layout (H.view holder.old) extent level }
+    ensures stays { Stays H.space H.aside H.alone holder.old holder.new }
+    ensures fills { Fills F.layout H.tells (H.view holder.old) (H.view holder.new) extent level }
+{
+    let log2 = extent.size_at::<F>(level);
+    if log2 >= F::INDEX * level {
+        let count = extent.run_under::<F>(level, log2);
+        if extent.end - extent.first == count << log2 {
+            fill_run::<F, H>(holder, level, extent, log2, count);
+            return;
+        }
+    }
+    fill::<F, H>(holder, level, extent);
+}
+
 /// Goes into the table under the entry over a page, which is linked there if there is none.
+#[inline(always)]
 fn go_into<F: Format, H: Holder<F>>(holder: &mut H, level: u32, page: u64)
     requires may { MayGoInto F.layout (H.view holder.old) page level }
     requires room { (lacking : List Position) × HasRoom (H.view holder.old) (next_table F.layout page level ∷ []) lacking }

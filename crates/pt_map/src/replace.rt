@@ -101,9 +101,9 @@ fn unlink_first<F: Format, H: Holder<F>>(holder: &mut H, level: u32, extent: Ext
     ensures unlinks { UnlinksReplaced F.layout H.tells (H.alone holder.old) (tiles F.layout (up_to extent result))
         (H.view holder.old) (H.view holder.new) }
 {
-    let log2 = extent.first_size::<F>();
+    let log2 = extent.size_at::<F>(level);
     if log2 >= F::INDEX * level {
-        let to = extent.first + (extent.run::<F>(log2) << log2);
+        let to = extent.first + (extent.run_under::<F>(level, log2) << log2);
         let levels = holder.levels();
         clear_tables::<F, H>(holder, level, extent.first, to, levels);
         to

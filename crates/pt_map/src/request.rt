@@ -5,19 +5,21 @@ ghost use Rattle.pt_model.specs.Book.{map_refusal};
 ghost use Rattle.pt_model.specs.Layout.{input_pages};
 ghost use Rattle.pt_model.specs.Pages.{byte_at};
 ghost use Rattle.pt_tile.specs.Extents as extents;
+ghost use Rattle.pt_tile.specs.Extents.{LiesUnderEntry};
 ghost use Rattle.pt_view.specs.Views.{Stays, linked_count};
 ghost use Rattle.pt_walk.specs.declared.range.Met.TheVariants.{Leaf};
 ghost use Rattle.pt_walk.specs.Walks.{Climbs, IsLowest, Rests};
 ghost use Rattle.pt_map.specs.declared.refused.MapRefused.TheVariants.{Occupied};
 ghost use Rattle.pt_map.specs.Answers.{Accounts, Answers, extent_at};
-ghost use Rattle.pt_map.specs.Stands.{IsBlockOf, IsRunOf};
+ghost use Rattle.pt_map.specs.Stands.{IsBlockOf, IsEntryExtent, IsRunOf};
 ghost use Rattle.pt_map.specs.Requests.{EndsAbove, EndsBelow, Gathers, IsRefusedByNumbers, IsRequested, MayMap, MayMapBelow, occupied};
 
 use crate::beyond::map_beyond;
-use crate::fill::{fill, fill_run};
+use crate::entry::is_under_one;
+use crate::fill::{fill_by, fill_run};
 use crate::refused::MapRefused;
 use crate::replace::{make_way, put_entry};
-use crate::survey::{Found, survey};
+use crate::survey::{Found, survey_by};
 use pt_format::{Format, Prot, Span, byte_of, is_whole, range_of};
 use pt_sweep::draw;
 use pt_tile::Extent;
@@ -81,7 +83,36 @@ pub(crate) fn gather<F: Format, H: Holder<F>>(holder: &mut H, absent: u64) -> Re
     }
 }
 
-/// Maps an extent of any blocks from the path's last table, of this level, or refuses it.
+/// Maps an extent of any blocks from the path's last table, of this level, or refuses it. Where the caller knows that the
+/// extent is under `one` entry, and the level is 1, no loop is made over its parts.
+#[inline(always)]
+fn map_by<F: Format, H: Holder<F>>(
+    holder: &mut H,
+    level: u32,
+    extent: Extent,
+    one: bool,
+) -> Result<(), MapRefused>
+    requires may { MayMapBelow F.layout (H.view holder.old) extent level }
+    requires one { IsTrue one → (level ≡ 1) × IsEntryExtent F.layout extent level }
+    ensures stays { Stays H.space H.aside H.alone holder.old holder.new }
+    ensures ends { EndsBelow F.layout H.tells (H.alone holder.old) (linked_count (H.view holder.old) (H.aside holder.old))
+        (H.view holder.old) (H.view holder.new) extent level result }
+{
+    let cap = u64::from(holder.frames()) + 1;
+    match survey_by::<F, H>(holder, level, extent, cap, one) {
+        Found::Mapped { page } => Err(MapRefused::Occupied {
+            address: byte_of::<F>(page),
+        }),
+        Found::Absent { count, tables } => {
+            gather::<F, H>(holder, count)?;
+            make_way::<F, H>(holder, level, extent, tables);
+            fill_by::<F, H>(holder, level, extent, one);
+            Ok(())
+        }
+    }
+}
+
+/// The same of any extent.
 #[inline(never)]
 fn map_below<F: Format, H: Holder<F>>(
     holder: &mut H,
@@ -93,18 +124,7 @@ fn map_below<F: Format, H: Holder<F>>(
     ensures ends { EndsBelow F.layout H.tells (H.alone holder.old) (linked_count (H.view holder.old) (H.aside holder.old))
         (H.view holder.old) (H.view holder.new) extent level result }
 {
-    let cap = u64::from(holder.frames()) + 1;
-    match survey::<F, H>(holder, level, extent, cap) {
-        Found::Mapped { page } => Err(MapRefused::Occupied {
-            address: byte_of::<F>(page),
-        }),
-        Found::Absent { count, tables } => {
-            gather::<F, H>(holder, count)?;
-            make_way::<F, H>(holder, level, extent, tables);
-            fill::<F, H>(holder, level, extent);
-            Ok(())
-        }
-    }
+    map_by::<F, H>(holder, level, extent, false)
 }
 
 /// The same, for an extent that is a run of so many equal blocks of that table: it needs no further table.
@@ -151,7 +171,7 @@ fn map_level<F: Format, H: Holder<F>>(
     ensures ends { EndsBelow F.layout H.tells (H.alone holder.old) (linked_count (H.view holder.old) (H.aside holder.old))
         (H.view holder.old) (H.view holder.new) extent level result }
 {
-    let count = extent.run::<F>(log2);
+    let count = extent.run_under::<F>(level, log2);
     if extent.end - extent.first == count << log2 {
         map_run::<F, H>(holder, level, extent, log2, count)
     } else {
@@ -249,7 +269,25 @@ fn map_at<F: Format, H: Holder<F>>(
     }
 }
 
-/// The same where a table is absent, and so many tables are left then.
+/// The same where a table is absent: most often it is the one over all of the extent, of level 0.
+#[inline(always)]
+fn map_lacking<F: Format, H: Holder<F>>(
+    holder: &mut H,
+    level: u32,
+    extent: Extent,
+) -> Result<(), MapRefused>
+    requires { MayMapBelow F.layout (H.view holder.old) extent level }
+    ensures stays { Stays H.space H.aside H.alone holder.old holder.new }
+    ensures ends { EndsBelow F.layout H.tells (H.alone holder.old) (linked_count (H.view holder.old) (H.aside holder.old))
+        (H.view holder.old) (H.view holder.new) extent level result }
+{
+    if level == 1 && is_under_one::<F>(level, extent) {
+        return map_by::<F, H>(holder, level, extent, true);
+    }
+    map_below::<F, H>(holder, level, extent)
+}
+
+/// The same, and so many tables are left then.
 #[inline(never)]
 fn map_absent<F: Format, H: Holder<F>>(
     holder: &mut H,
@@ -263,7 +301,7 @@ fn map_absent<F: Format, H: Holder<F>>(
     ensures ends { EndsAbove F.layout H.tells (H.alone holder.old) (linked_count (H.view holder.old) (H.aside holder.old))
         (H.view holder.old) (H.view holder.new) extent level tables result }
 {
-    let mapped = map_below::<F, H>(holder, level, extent);
+    let mapped = map_lacking::<F, H>(holder, level, extent);
     climb::<F, H>(holder, tables);
     mapped
 }
@@ -312,17 +350,20 @@ fn map_from<F: Format, H: Holder<F>>(
     }
 }
 
-/// Maps an extent of the span. `log2` is the size of its first block; a `whole` extent is that block alone, of one entry.
+/// Maps an extent of the span. `log2` is the size of its first block, which stands in a table of level `lowest`; a `whole`
+/// extent lies under one such table.
 #[inline(always)]
 fn map_extent<F: Format, H: Holder<F>>(
     holder: &mut H,
     extent: Extent,
+    lowest: u32,
     log2: u32,
     whole: bool,
 ) -> Result<(), MapRefused>
     requires may { MayMap F.layout (H.view holder.old) extent }
     requires size { log2 ≡ extents.first_size F.layout extent }
-    requires whole { IsTrue whole → (F.layout.index * (log2 / F.layout.index) ≡ log2) × (extent.end ≡ extent.first + 2 ^ log2) }
+    requires lowest { lowest ≡ log2 / F.layout.index }
+    requires whole { IsTrue whole → LiesUnderEntry F.layout extent (lowest + 1) }
     ensures stays { Stays H.space H.aside H.alone holder.old holder.new }
     ensures rests { Rests F.layout (H.view holder.new) }
     ensures answered { Answers F.layout H.tells (H.view holder.old) (H.view holder.new) (occupied F.layout extent) extent result }
@@ -334,14 +375,7 @@ fn map_extent<F: Format, H: Holder<F>>(
         climb::<F, H>(holder, 1);
         return mapped;
     }
-    let stop = descend::<F, H>(
-        holder,
-        root,
-        log2 / F::INDEX,
-        extent.first,
-        extent.end,
-        whole,
-    );
+    let stop = descend::<F, H>(holder, root, lowest, extent.first, extent.end, whole);
     map_from::<F, H>(holder, stop, extent, log2, root - stop.level + 1)
 }
 
@@ -373,15 +407,22 @@ pub fn map<F: Format, H: Holder<F>>(
 {
     let extent = extent_in::<F>(holder.range(), va, pa, len, prot)?;
     if extent.is_block::<F>(0) {
-        return map_extent::<F, H>(holder, extent, 0, true);
+        return map_extent::<F, H>(holder, extent, 0, 0, true);
     }
     if extent.is_block::<F>(F::INDEX) {
-        return map_extent::<F, H>(holder, extent, F::INDEX, true);
+        return map_extent::<F, H>(holder, extent, 1, F::INDEX, true);
+    }
+    if is_under_one::<F>(1, extent) {
+        let log2 = extent.size_at::<F>(0);
+        if log2 == 0 {
+            return map_extent::<F, H>(holder, extent, 0, 0, true);
+        }
+        return map_extent::<F, H>(holder, extent, 0, log2, true);
     }
     let log2 = extent.first_size::<F>();
     if log2 == 0 {
         // pages come first: where the size is a constant, so is the level of their table
-        return map_extent::<F, H>(holder, extent, 0, false);
+        return map_extent::<F, H>(holder, extent, 0, 0, false);
     }
-    map_extent::<F, H>(holder, extent, log2, false)
+    map_extent::<F, H>(holder, extent, log2 / F::INDEX, log2, false)
 }

@@ -1,7 +1,7 @@
 //! The look through an extent before anything changes: its lowest mapped page, or the count of the tables that it
 //! needs and that are absent.
 
-ghost use Rattle.std.specs.Prelude.{◌≡◌, ◌+◌, ◌*◌, ◌/◌, ◌^◌, ◌<◌, ◌≤◌, ℕ, length, min};
+ghost use Rattle.std.specs.Prelude.{◌≡◌, ◌+◌, ◌*◌, ◌/◌, ◌^◌, ◌<◌, ◌≤◌, ℕ, length, min, IsTrue};
 ghost use Rattle.pt_model.specs.declared.position.Position.{Position};
 ghost use Rattle.pt_model.specs.Sets.{IsAmong};
 ghost use Rattle.pt_tile.specs.Extents.{IsExtent, IsFirstTo, LiesUnderEntry, tables_below, up_to};
@@ -115,6 +115,27 @@ pub(crate) fn survey<F: Format, H: Holder<F>>(
     }
 }
 
+/// The same. Where the caller knows that the extent is under `one` entry of that table, nothing is tested.
+#[inline(always)]
+pub(crate) fn survey_by<F: Format, H: Holder<F>>(
+    holder: &mut H,
+    level: u32,
+    extent: Extent,
+    cap: u64,
+    one: bool,
+) -> Found
+    requires may { MaySurvey F.layout (H.view holder.old) extent level cap }
+    requires one { IsTrue one → IsEntryExtent F.layout extent level }
+    ensures stays { Stays H.space H.aside H.alone holder.old holder.new }
+    ensures surveyed { Surveyed F.layout H.tells (H.alone holder.old) (H.view holder.old) (H.view holder.new) extent level cap result }
+{
+    if one {
+        survey_under::<F, H>(holder, level, extent, cap)
+    } else {
+        survey::<F, H>(holder, level, extent, cap)
+    }
+}
+
 /// The same, for the blocks of the first one's size that come first of an extent, where they stand in the path's
 /// last table, and else for what lies under the entry over its first page.
 #[cycle(survey)]
@@ -130,9 +151,9 @@ fn survey_first<F: Format, H: Holder<F>>(
     ensures surveyed { Surveyed F.layout H.tells (H.alone holder.old) (H.view holder.old) (H.view holder.new) (up_to extent result.to) level cap
         result.found }
 {
-    let log2 = extent.first_size::<F>();
+    let log2 = extent.size_at::<F>(level);
     if log2 >= F::INDEX * level {
-        let to = extent.first + (extent.run::<F>(log2) << log2);
+        let to = extent.first + (extent.run_under::<F>(level, log2) << log2);
         return Looked {
             to,
             found: look::<F, H>(holder, level, extent.up_to(to), cap),
@@ -147,6 +168,7 @@ fn survey_first<F: Format, H: Holder<F>>(
 
 /// The same, for an extent under one entry of the path's last table.
 #[cycle(survey)]
+#[inline(always)]
 fn survey_under<F: Format, H: Holder<F>>(
     holder: &mut H,
     level: u32,

@@ -7,9 +7,9 @@ use Rattle.pt_view.specs.Views.{book_of}
 use Rattle.pt_closed.specs.Closed.{IsClosed}
 use Rattle.pt_script.specs.declared.whole.Script.{Script}
 use Rattle.pt_forks.specs.Running.{AreTold}
-use Rattle.pt_reply.specs.Built.{machine}
 use Rattle.pt_reply.specs.Telling.{IsTellable}
 use Rattle.pt_names.specs.Names.{layout_of}
+use Rattle.pt_made.specs.Formats.{machine_in}
 
 -- the words are those of a closed space of a machine, with this book
 pub record Closes (m : Machine) (book : Book) (words : List ℕ) : Type 0 where
@@ -17,11 +17,7 @@ pub record Closes (m : Machine) (book : Book) (words : List ℕ) : Type 0 where
   pub levels : closed.levels ≡ m.levels
   pub book_is : book_of closed.view closed.blocks ≡ book
 
--- what runs a script
-abbrev pub machine_of : Script → Machine
-machine_of script = machine (layout_of script.format) script.levels script.frames
-
 -- the replies are those of a script's run where the account decides of frames, and each has a text in the script's format
 pub record IsRunOfOne (script : Script) (replies : List Reply) : Type 0 where
-  pub are : replies ≡ run_by (machine_of script) ByAccount script.body script.tail
+  pub are : replies ≡ run_by (machine_in script) ByAccount script.body script.tail
   pub told : AreTold (IsTellable (layout_of script.format)) replies

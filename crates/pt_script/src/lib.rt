@@ -44,7 +44,7 @@ pub use grammar::is_the_grammar;
 pub use laws::{bad_is_no_script, bad_line_is_first, one_refusal, one_text};
 pub use line::{Keyword, Line, Side};
 pub use parsing::parse;
-pub use printing::{print, push_prot};
+pub use printing::{name_text, print, push_prot};
 pub use pt_model::{Ask, AskWhat, Command, Name, Prot, What};
 pub use script::{Body, Tail};
 pub use whole::Script;

@@ -14,7 +14,8 @@ use pt_num::Memory;
 use pt_stream::{push_dec, push_hex};
 use std::alloc::Global;
 
-fn name_text(name: Name) -> &'static [u8]
+/// The name of a format, as a script's first line has it.
+pub fn name_text(name: Name) -> &'static [u8]
     ensures { result.now ≡ name_text name }
 {
     match name {

@@ -1,12 +1,13 @@
 -- A range under one entry that is empty, or the word of a block that is all of the range.
-use Rattle.std.proofs.Common.{min, zero, ◌-◌, ◌≡◌, ◌⊎◌, ℕ, suc, ◌+◌, ◌*◌, ◌/◌, ◌^◌, ◌<◌, ◌≤◌, List, [], ◌∷◌, true, inl, inr, refl, ap, sym, subst, ◌∙◌, arith}
-use Rattle.std.specs.Prelude.{IsBitSet, max, nat_le, nat_lt, AllPairs, Contains, None, Option, Some}
+use Rattle.std.proofs.Common.{min, zero, ◌-◌, ◌≡◌, ◌⊎◌, ℕ, suc, ◌+◌, ◌*◌, ◌/◌, ◌^◌, ◌<◌, ◌≤◌, List, [], ◌∷◌, true, false, inl, inr, refl, ap, sym, subst, ◌∙◌, arith}
+use Rattle.std.specs.Prelude.{IsBitSet, max, nat_le, nat_lt, AllPairs, Contains, None, Option, Some, IsTrue}
 use Rattle.std.proofs.lemmas.Bool.{and_from, and_parts, cases_Bool, cases_lt, false_from_ne_true, false≢true, leb-true, lt-ltb}
-use Rattle.std.proofs.lemmas.Nat.{mul-le, pow_pos, shr_split}
+use Rattle.std.proofs.lemmas.Nat.{div_below, mod_below, mul-le, pow_pos, shr_split}
 use Rattle.std.proofs.Math.Pow.{pow_mono}
 use Rattle.pt_model.specs.declared.position.Position.{Position}
 use Rattle.pt_model.specs.declared.block.Block.{Block}
-use Rattle.pt_model.specs.Layout.{Layout, end_of, pages_of_entry, pages_of_table}
+use Rattle.pt_model.specs.declared.block.Prot.{Prot}
+use Rattle.pt_model.specs.Layout.{Layout, end_of, output_pages, pages_of_entry, pages_of_table}
 use Rattle.pt_model.specs.Book.{table_lies_in}
 use Rattle.pt_model.proofs.Tops.{table_mono}
 use Rattle.pt_model.specs.Unmap.{is_cut}
@@ -14,6 +15,7 @@ use Rattle.std.proofs.Math.Nat.{div-mul-le_self}
 use Rattle.pt_model.proofs.Quotients.{multiple_under, table_is_entries, whole}
 use Rattle.pt_format.proofs.BitFacts.{one_bit_set}
 use Rattle.pt_format.specs.Laws.{IsLayout}
+use Rattle.pt_format.specs.Words.{IsLeaf, MayBeLeaf}
 use Rattle.pt_view.specs.declared.view.View.{View}
 use Rattle.pt_view.specs.declared.view.Piece.{Piece}
 use Rattle.pt_view.specs.declared.holder.Seen.{Seen}
@@ -66,6 +68,41 @@ one_size {f} good level word first end bits b block is set some one =
     let s = shr_split first (f.index * level) in (
       λ exact out. elim out [ inl before ↦ omega arith | inr past ↦ omega arith ],
       λ other. elim (cases_lt b.first first) [ inl before ↦ inl before | inr not ↦ inr (elim (cases_lt end (end_of b)) [ inl past ↦ past | inr fine ↦ absurd (other (omega arith)) ]) ],
+    )
+
+-- the word over a page that a block has there is that of a leaf
+pub leaf_of : {f : Layout} {level word page : ℕ} {b : Block} → IsBlockOf f level word page b → IsLeaf f level word b.log2 b.prot
+leaf_of {b = b} is = record { out = b.out; part = is.part; may = is.may; word_is = is.word_is }
+
+-- a block of one page may have the same permission, and any output page
+pub page_leaf : {f : Layout} → IsLayout f → {word page : ℕ} {b : Block} → IsBlockOf f 0 word page b → {out : ℕ} {prot : Prot} → out < output_pages f → prot ≡ b.prot →
+    MayBeLeaf f 0 0 out prot 0
+page_leaf {f} good {b = b} is {out} {prot} within same = record {
+  below = is.may.below;
+  a_size = good.has_pages;
+  at_level = (let some : 0 < f.index = omega (arith, good.index_is, good.granule_low) in let low = div_below 0 f.index 1 some (omega arith) in omega arith);
+  aligned = (let low = mod_below out (2 ^ 0) (pow_pos 0) in omega arith);
+  within = omega arith;
+  stated = subst (λ (p : Prot). IsTrue (f.states p)) (sym same) is.may.stated;
+  a_part = pow_pos (0 - f.index * 0);
+}
+
+-- a range of one page, the block's own, isn't cut by it
+pub page_alone : (f : Layout) {word first end : ℕ} (b : Block) → b.log2 ≡ 0 → IsBlockOf f 0 word first b → first < end →
+    end ≤ (first / pages_of_entry f 0 + 1) * pages_of_entry f 0 → {cut : Type 0} → (false ≡ true → cut) × ((b.first < first) ⊎ (end < end_of b) → false ≡ true)
+page_alone f {first = first} {end} b page is some one =
+    let pages : 2 ^ b.log2 ≡ 1 = ap (λ (k : ℕ). 2 ^ k) page in
+    let none : f.index * 0 ≡ 0 = omega arith in
+    let entry : pages_of_entry f 0 ≡ 1 = ap (λ (k : ℕ). 2 ^ k) none in
+    let less : b.log2 - f.index * 0 ≡ 0 = omega arith in
+    let part : is.part < 2 ^ 0 = subst (λ (k : ℕ). is.part < 2 ^ k) less is.may.a_part in
+    let only : is.part ≡ 0 = omega arith in
+    let from : b.first + 0 * 1 ≤ first = subst (λ (n : ℕ). b.first + n * 1 ≤ first) only (subst (λ (n : ℕ). b.first + is.part * n ≤ first) entry is.under.from) in
+    let to : first < b.first + (0 + 1) * 1 = subst (λ (n : ℕ). first < b.first + (n + 1) * 1) only (subst (λ (n : ℕ). first < b.first + (is.part + 1) * n) entry is.under.to) in
+    let within : end ≤ (first / 1 + 1) * 1 = subst (λ (n : ℕ). end ≤ (first / n + 1) * n) entry one in
+    let split = shr_split first 0 in (
+      λ t. absurd (false≢true t),
+      λ out. absurd (elim out [ inl before ↦ omega arith | inr past ↦ omega arith ]),
     )
 
 -- two blocks of a book are one, or apart

@@ -22,8 +22,33 @@ pub(crate) fn reaches_out(block: Block, first: u64, end: u64) -> bool
     block.first < first || block.first + (1 << block.log2) > end
 }
 
+/// Whether this word, in a table of level 0, is the word over a page of a block of one page. It isn't read: the word that
+/// such a block has with the same output and permission is made.
+#[inline(always)]
+fn is_page<F: Format>(word: u64, page: u64) -> bool
+    requires some { (b : Block) × IsBlockOf F.layout 0 word page b }
+    requires a_page { page < input_pages F.layout }
+    ensures { IsTrue result → (b : Block) → IsBlockOf F.layout 0 word page b → b.log2 ≡ 0 }
+{
+    let out = F::out_of(0, word, page);
+    let prot = F::prot_of(0, word);
+    F::leaf_word(0, 0, out, prot, 0) == word
+}
+
 /// Whether the block of which this word, in a table of this level, is the word over a page has pages outside a range that
-/// begins there. Where the level has blocks of one size alone, the word isn't read.
+/// begins there.
+#[inline(never)]
+fn is_block_cut<F: Format>(level: u32, word: u64, first: u64, end: u64) -> bool
+    requires some { (b : Block) × IsBlockOf F.layout level word first b × (layout.end_of b ≤ 2 ^ 52) }
+    requires a_page { first < end }
+    requires in_space { end ≤ input_pages F.layout }
+    ensures { (b : Block) → IsBlockOf F.layout level word first b → (IsTrue result ↔ ((b.first < first) ⊎ (end < layout.end_of b))) }
+{
+    reaches_out(block_of::<F>(level, word, first), first, end)
+}
+
+/// The same of a range under one entry. Where the level has blocks of one size alone, or a page is met, the word isn't
+/// read.
 #[inline(always)]
 fn is_cut<F: Format>(level: u32, word: u64, first: u64, end: u64) -> bool
     requires some { (b : Block) × IsBlockOf F.layout level word first b × (layout.end_of b ≤ 2 ^ 52) }
@@ -37,7 +62,10 @@ fn is_cut<F: Format>(level: u32, word: u64, first: u64, end: u64) -> bool
     if F::sizes(level) == pages {
         return end - first != pages;
     }
-    reaches_out(block_of::<F>(level, word, first), first, end)
+    if level == 0 && is_page::<F>(word, first) {
+        return false;
+    }
+    is_block_cut::<F>(level, word, first, end)
 }
 
 /// Clears the one block of a range under one entry of the path's last table, of this level. Answers how many pages went;

@@ -11,3 +11,4 @@ pub mod FirstSizes
 pub mod UnderEntries
 pub mod RunTilings
 pub mod FirstParts
+pub mod RunsUnder

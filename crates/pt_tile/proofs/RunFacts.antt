@@ -1,7 +1,7 @@
 -- A run of equal blocks at the front of a tiling.
 use Rattle.std.proofs.Common.{◌≡◌, ℕ, zero, suc, ◌+◌, ◌-◌, ◌*◌, ◌/◌, ◌%◌, ◌^◌, ◌<◌, ◌≤◌, ◌++◌, ◌∷◌, List, ap, sym, subst, ◌∙◌, arith, inl, inr}
 use Rattle.std.specs.Prelude.{IsTrue, Option, Some, None, ⊤, min}
-use Rattle.std.proofs.lemmas.Nat.{pow_pos, shr_split, le-div, mod_below}
+use Rattle.std.proofs.lemmas.Nat.{pow_pos, shr_split, le-div, mod_below, mod_low}
 use Rattle.std.proofs.Math.Nat.{mul-le-mul_right}
 use Rattle.std.proofs.lemmas.Bool.{cases_lt}
 use Rattle.pt_model.specs.declared.block.Block.{Block}
@@ -36,30 +36,50 @@ abbrev pub IsUpTo : (first : ℕ) → Option ℕ → (end : ℕ) → Type 0
 IsUpTo first None end = ⊤
 IsUpTo first (Some size) end = (end % 2 ^ size ≡ 0) × (end ≤ first + 2 ^ size)
 
--- it stays such a page where the first page moves on
-later_up : (first x end : ℕ) (larger : Option ℕ) → IsUpTo first larger end → IsUpTo (first + x) larger end
-later_up first x end None up = tt
-later_up first x end (Some size) up = (up.0, omega (arith, up.1))
+-- no block of more than 2 ^ k pages is legal at a page of a range behind its first, whose outputs go along
+abbrev pub HasNoGreater : Layout → (k first out end : ℕ) → Type 0
+HasNoGreater g k first out end = (x j : ℕ) → 0 < x → first + x < end → IsLegal g (first + x) j (out + x) → j ≤ k
 
--- a size that is legal at a page between is at most 2 ^ k pages
-legal_between : (g : Layout) (k first at out end j : ℕ) (larger : Option ℕ) → IsLarger g (k + 1) at out larger →
-    IsUpTo first larger end → first < at → at < end → IsLegal g at j out → j ≤ k
-legal_between g k first at out end j None l up after before legal =
-    omega (arith, l j legal.a_size (legal.first_aligned ∙ sym legal.out_aligned))
-legal_between g k first at out end j (Some size) l up after before legal =
+-- it stays so where the first page moves on
+later_greater : (g : Layout) (k first out end x : ℕ) → HasNoGreater g k first out end → HasNoGreater g k (first + x) (out + x) end
+later_greater g k first out end x none y j some before legal =
+    let at : first + x + y ≡ first + (x + y) = omega arith in
+    let to : out + x + y ≡ out + (x + y) = omega arith in
+    none (x + y) j (omega arith) (omega arith) (subst (λ (n : ℕ). IsLegal g n j (out + (x + y))) at (subst (λ (n : ℕ). IsLegal g (first + x + y) j n) to legal))
+
+-- up to the next place at which a larger block could begin there is none
+pub none_up : (g : Layout) (k first out end : ℕ) (larger : Option ℕ) → IsLarger g (k + 1) first out larger → IsUpTo first larger end →
+    HasNoGreater g k first out end
+none_up g k first out end None l up x j some before legal =
+    let moved = larger_moves g (k + 1) first out x None l in
+    omega (arith, moved j legal.a_size (legal.first_aligned ∙ sym legal.out_aligned))
+none_up g k first out end (Some size) l up x j some before legal =
     elim (cases_lt k j) [
       | inl above ↦
           let low : size ≤ j = l.3 j legal.a_size (omega arith) in
-          let aligned : at % 2 ^ size ≡ 0 = coarse_is_fine size j at low legal.first_aligned in
-          absurd (omega (arith, up.1, multiples_apart size at end aligned up.0 before))
+          let aligned : (first + x) % 2 ^ size ≡ 0 = coarse_is_fine size j (first + x) low legal.first_aligned in
+          absurd (omega (arith, up.1, multiples_apart size (first + x) end aligned up.0 before))
       | inr within ↦ within
     ]
 
+-- inside a table there is none, where 2 ^ k pages are the most of a block under one entry of it
+pub none_inside : (g : Layout) (k first out end wide : ℕ) → end ≤ first / 2 ^ wide * 2 ^ wide + 2 ^ wide →
+    ((j : ℕ) → IsTrue (is_size g j) → j < wide → j ≤ k) → HasNoGreater g k first out end
+none_inside g k first out end wide under most x j some before legal =
+    elim (cases_lt j wide) [
+      | inl low ↦ most j legal.a_size low
+      | inr high ↦
+          let aligned : (first + x) % 2 ^ wide ≡ 0 = coarse_is_fine wide j (first + x) high legal.first_aligned in
+          let base : first / 2 ^ wide * 2 ^ wide ≡ first / 2 ^ wide * 2 ^ wide + 0 = omega arith in
+          let begins = ap (λ (m : ℕ). m % 2 ^ wide) base ∙ mod_low (first / 2 ^ wide) wide 0 (pow_pos wide) in
+          absurd (omega (arith, multiples_apart wide (first / 2 ^ wide * 2 ^ wide) (first + x) begins aligned (omega (arith, shr_split first wide))))
+    ]
+
 -- the next block of a run is the greatest at its place
-greatest_again : (g : Layout) (k first out left end : ℕ) (larger : Option ℕ) → first + left ≤ input_pages g → out + left ≤ output_pages g →
-    IsGreatestSize g first out left k → IsLarger g (k + 1) first out larger → IsUpTo first larger end →
+greatest_again : (g : Layout) (k first out left end : ℕ) → first + left ≤ input_pages g → out + left ≤ output_pages g →
+    IsGreatestSize g first out left k → HasNoGreater g k first out end →
     2 ^ k + 2 ^ k ≤ left → first + 2 ^ k < end → IsGreatestSize g (first + 2 ^ k) (out + 2 ^ k) (left - 2 ^ k) k
-greatest_again g k first out left end larger hi ho top l up more before = record {
+greatest_again g k first out left end hi ho top none more before = record {
   legal = record {
     a_size = top.legal.a_size;
     first_aligned = aligned_sum k k first (omega arith) top.legal.first_aligned;
@@ -68,32 +88,30 @@ greatest_again g k first out left end larger hi ho top l up more before = record
     in_output = omega arith;
   };
   fits = omega arith;
-  greatest = λ j legal fits.
-      legal_between g k first (first + 2 ^ k) (out + 2 ^ k) end j larger
-      (larger_moves g (k + 1) first out (2 ^ k) larger l) up (omega (arith, pow_pos k)) before legal;
+  greatest = λ j legal fits. none (2 ^ k) j (pow_pos k) before legal;
 }
 
 -- tilings at equal numbers
 same_tiling : (g : Layout) (prot : Prot) (a b c d m n : ℕ) → a ≡ b → c ≡ d → m ≡ n → tiling g prot a c m ≡ tiling g prot b d n
 same_tiling g prot a b c d m n p q r = cc
 
--- a run of one block or more, up to such a page, is the front of the tiling
-pub run_is : (g : Layout) (prot : Prot) → IsTrue (is_size g 0) → (k end : ℕ) (larger : Option ℕ) (count first out left : ℕ) →
+-- a run of one block or more, behind which no greater one begins before its end, is the front of the tiling
+pub run_is : (g : Layout) (prot : Prot) → IsTrue (is_size g 0) → (k end count first out left : ℕ) →
     first + left ≤ input_pages g → out + left ≤ output_pages g → IsGreatestSize g first out left k →
-    IsLarger g (k + 1) first out larger → IsUpTo first larger end → suc count * 2 ^ k ≤ left → first + suc count * 2 ^ k ≤ end →
+    HasNoGreater g k first out end → suc count * 2 ^ k ≤ left → first + suc count * 2 ^ k ≤ end →
     tiling g prot first out left
     ≡ run_blocks (suc count) k prot first out
     ++ tiling g prot (first + suc count * 2 ^ k) (out + suc count * 2 ^ k) (left - suc count * 2 ^ k)
-run_is g prot z k end larger zero first out left hi ho top l up fits before =
+run_is g prot z k end zero first out left hi ho top none fits before =
     let one : 2 ^ k ≡ suc zero * 2 ^ k = omega arith in
     tiling_first g prot first out left k z hi ho top
     ∙ ap (λ (x : ℕ). block_at first k out prot ∷ tiling g prot (first + x) (out + x) (left - x)) one
-run_is g prot z k end larger (suc count) first out left hi ho top l up fits before =
+run_is g prot z k end (suc count) first out left hi ho top none fits before =
     let times : suc (suc count) * 2 ^ k ≡ 2 ^ k + suc count * 2 ^ k = omega arith in
     let some : 2 ^ k ≤ suc count * 2 ^ k = omega arith in
-    let again = greatest_again g k first out left end larger hi ho top l up (omega arith) (omega (arith, pow_pos k)) in
-    let rest = run_is g prot z k end larger count (first + 2 ^ k) (out + 2 ^ k) (left - 2 ^ k) (omega arith) (omega arith) again
-    (larger_moves g (k + 1) first out (2 ^ k) larger l) (later_up first (2 ^ k) end larger up) (omega arith) (omega arith) in
+    let again = greatest_again g k first out left end hi ho top none (omega arith) (omega (arith, pow_pos k)) in
+    let rest = run_is g prot z k end count (first + 2 ^ k) (out + 2 ^ k) (left - 2 ^ k) (omega arith) (omega arith) again
+    (later_greater g k first out end (2 ^ k) none) (omega arith) (omega arith) in
     let place : tiling g prot (first + 2 ^ k + suc count * 2 ^ k) (out + 2 ^ k + suc count * 2 ^ k) (left - 2 ^ k - suc count * 2 ^ k)
     ≡ tiling g prot (first + suc (suc count) * 2 ^ k) (out + suc (suc count) * 2 ^ k) (left - suc (suc count) * 2 ^ k) =
     same_tiling g prot _ _ _ _ _ _ (omega arith) (omega arith) (omega arith) in
@@ -102,14 +120,14 @@ run_is g prot z k end larger (suc count) first out left hi ho top l up fits befo
     (rest ∙ ap (λ (t : List Block). run_blocks (suc count) k prot (first + 2 ^ k) (out + 2 ^ k) ++ t) place)
 
 -- the same, by a number of blocks that is not zero
-pub run_some : (g : Layout) (prot : Prot) → IsTrue (is_size g 0) → (k end : ℕ) (larger : Option ℕ) (count first out left : ℕ) →
+pub run_some : (g : Layout) (prot : Prot) → IsTrue (is_size g 0) → (k end count first out left : ℕ) →
     first + left ≤ input_pages g → out + left ≤ output_pages g → IsGreatestSize g first out left k →
-    IsLarger g (k + 1) first out larger → IsUpTo first larger end → 1 ≤ count → count * 2 ^ k ≤ left → first + count * 2 ^ k ≤ end →
+    HasNoGreater g k first out end → 1 ≤ count → count * 2 ^ k ≤ left → first + count * 2 ^ k ≤ end →
     tiling g prot first out left
     ≡ run_blocks count k prot first out ++ tiling g prot (first + count * 2 ^ k) (out + count * 2 ^ k) (left - count * 2 ^ k)
-run_some g prot z k end larger zero first out left hi ho top l up some fits before = absurd (omega arith)
-run_some g prot z k end larger (suc count) first out left hi ho top l up some fits before =
-    run_is g prot z k end larger count first out left hi ho top l up fits before
+run_some g prot z k end zero first out left hi ho top none some fits before = absurd (omega arith)
+run_some g prot z k end (suc count) first out left hi ho top none some fits before =
+    run_is g prot z k end count first out left hi ho top none fits before
 
 -- where a block fits, the number that fits is not zero
 pub fitting_some : (k left : ℕ) → 2 ^ k ≤ left → 1 ≤ left / 2 ^ k

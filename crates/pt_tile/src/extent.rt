@@ -1,6 +1,7 @@
 //! Extents: what a request maps, and the steps by which it is gone through.
 
 ghost use Rattle.std.specs.Prelude.{◌≡◌, ℕ, ◌+◌, ◌-◌, ◌*◌, ◌^◌, ◌<◌, ◌≤◌, IsTrue, min};
+ghost use Rattle.pt_model.specs.Tables.{end_of_table, position_over};
 ghost use Rattle.pt_tile.specs.Extents as extents;
 ghost use Rattle.pt_tile.specs.Extents.{IsExtent, IsRun};
 
@@ -30,6 +31,20 @@ impl Extent {
             self.end - self.first,
             all_sizes::<F>(),
         )
+    }
+
+    /// The same of an extent whose first block isn't one of a table above a level. Where that is the lowest, and it has
+    /// blocks of one page alone, nothing is computed.
+    #[inline(always)]
+    pub fn size_at<F: Format>(self, level: u32) -> u32
+        requires extent { IsExtent F.layout self }
+        requires low { extents.first_size F.layout self < F.layout.index * (level + 1) }
+        ensures { result ≡ extents.first_size F.layout self }
+    {
+        if level == 0 && F::sizes(0) == 1 {
+            return 0;
+        }
+        self.first_size::<F>()
     }
 
     /// The block of `2^log2` pages that begins where it does.
@@ -76,6 +91,22 @@ impl Extent {
             log2,
             all_sizes::<F>(),
         )
+    }
+
+    /// The same of an extent under one table of a level. Where the size is the greatest of that level, every block
+    /// that fits is of it, since no greater one can begin inside a table.
+    #[inline(always)]
+    pub fn run_under<F: Format>(self, level: u32, log2: u32) -> u64
+        requires extent { IsExtent F.layout self }
+        requires first { log2 ≡ extents.first_size F.layout self }
+        requires level { level < F.layout.levels }
+        requires under { self.end ≤ end_of_table F.layout (position_over F.layout self.first level) }
+        ensures { IsRun F.layout self result }
+    {
+        if F::sizes(level) >> log2 == 1 {
+            return (self.end - self.first) >> log2;
+        }
+        self.run::<F>(log2)
     }
 
     /// What there is of it before a page.

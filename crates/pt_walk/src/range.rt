@@ -2,7 +2,7 @@
 
 ghost use Rattle.pt_view.specs.Views.{Stays};
 ghost use Rattle.std.specs.Prelude.{◌≡◌, ◌+◌, ◌*◌, ◌/◌, ◌^◌, ◌≤◌, ◌<◌, ◌↔◌, IsTrue, min, length};
-ghost use Rattle.pt_model.specs.Layout.{input_pages, pages_of_entry};
+ghost use Rattle.pt_model.specs.Layout.{input_pages, pages_of_entry, pages_of_table};
 ghost use Rattle.pt_walk.specs.declared.range.Under.TheVariants.{Nothing, Tables};
 ghost use Rattle.pt_walk.specs.Walks.{Climbs, FindsUnder, IsClear, IsOverRange, OwnsAll, OwnsOver, StaysClear, StopsAt, WentDown};
 ghost use Rattle.pt_view.specs.Loads.{ByLoads};
@@ -47,14 +47,14 @@ pub fn entry_end<F: Format>(level: u32, page: u64) -> u64
 }
 
 /// Whether a range lies under one entry of a table of a level. Where the caller knows that it is `whole`, under one
-/// entry of a table of level `lowest`, nothing is tested.
+/// table of level `lowest`, nothing is tested.
 #[inline(always)]
 fn lies_under<F: Format>(level: u32, lowest: u32, first: u64, end: u64, whole: bool) -> bool
     requires a_level { level < F.layout.levels }
     requires a_page { first < input_pages F.layout }
     requires in_space { end ≤ input_pages F.layout }
-    requires lowest { lowest ≤ level }
-    requires whole { IsTrue whole → end ≤ (first / pages_of_entry F.layout lowest + 1) * pages_of_entry F.layout lowest }
+    requires lowest { lowest < level }
+    requires whole { IsTrue whole → end ≤ (first / pages_of_table F.layout lowest + 1) * pages_of_table F.layout lowest }
     ensures { IsTrue result ↔ (end ≤ (first / pages_of_entry F.layout level + 1) * pages_of_entry F.layout level) }
 {
     if whole {
@@ -83,7 +83,7 @@ pub struct Stop {
 
 /// Goes down, from the path's last table, of this level, while the range lies under one of its entries,
 /// that names a table, and the level is above `lowest`. Answers where it ends; it ends nowhere else. Where the
-/// caller knows that the range is `whole`, under one entry of a table of level `lowest`, that isn't tested.
+/// caller knows that the range is `whole`, under one table of level `lowest`, that isn't tested.
 pub fn descend<F: Format, H: Holder<F>>(
     holder: &mut H,
     level: u32,
@@ -94,7 +94,7 @@ pub fn descend<F: Format, H: Holder<F>>(
 ) -> Stop
     requires range { IsOverRange F.layout (H.view holder.old) first end level }
     requires lowest { lowest ≤ level }
-    requires whole { IsTrue whole → end ≤ (first / pages_of_entry F.layout lowest + 1) * pages_of_entry F.layout lowest }
+    requires whole { IsTrue whole → end ≤ (first / pages_of_table F.layout lowest + 1) * pages_of_table F.layout lowest }
     ensures stays { Stays H.space H.aside H.alone holder.old holder.new }
     ensures walked { ByLoads H.tells (H.view holder.old) (H.view holder.new) }
     ensures range { IsOverRange F.layout (H.view holder.new) first end result.level }

@@ -88,12 +88,12 @@ low_by : (n index level k size : ℕ) → n ≡ index → k ≡ size → k < n *
 low_by n index level k size e is low = let same : n * level ≡ index * level = ap (λ (i : ℕ). i * level) e in omega arith
 
 pub fill_first-word_run-run-requires-clause-some : goal.fill_first-word_run-run-requires-clause-some
-fill_first-word_run-run-requires-clause-some g t c = c.run-count.ensures.some
+fill_first-word_run-run-requires-clause-some g t c = c.run_under-count.ensures.some
 
 pub fill_first-word_run-run-requires-clause-leaves : goal.fill_first-word_run-run-requires-clause-leaves
 fill_first-word_run-run-requires-clause-leaves g t c =
-    let high = high_by c.INDEX.result g.F.Format.layout.index c.args.level c.first_size-log2.result (c.INDEX.ensures ∙ sym g.met.F.Format.has_constants.index_is) c.if-log2-INDEX.true in
-    run_leaves g.met.F.Format.lawful_layout c.requires.store c.first_size-log2.result c.first_size-log2.ensures high c.run-count.ensures
+    let high = high_by c.INDEX.result g.F.Format.layout.index c.args.level c.size_at-log2.result (c.INDEX.ensures ∙ sym g.met.F.Format.has_constants.index_is) c.if-log2-INDEX.true in
+    run_leaves g.met.F.Format.lawful_layout c.requires.store c.size_at-log2.result c.size_at-log2.ensures high c.run_under-count.ensures
 
 pub fill_first-write_run-requires-clause-may : goal.fill_first-write_run-requires-clause-may
 fill_first-write_run-requires-clause-may g t c =
@@ -101,22 +101,22 @@ fill_first-write_run-requires-clause-may g t c =
     let good = g.met.F.Format.lawful_layout in
     let v : View = g.H.Holder.view c.args.holder.now in
     let extent = c.requires.store.stands.at.extent in
-    let high = high_by c.INDEX.result f.index c.args.level c.first_size-log2.result (c.INDEX.ensures ∙ sym g.met.F.Format.has_constants.index_is) c.if-log2-INDEX.true in
-    let run = run_fewer f good c.args.extent extent c.run-count.result c.word_run-run.result.blocks c.run-count.ensures c.word_run-run.ensures.some c.word_run-run.ensures.few in
+    let high = high_by c.INDEX.result f.index c.args.level c.size_at-log2.result (c.INDEX.ensures ∙ sym g.met.F.Format.has_constants.index_is) c.if-log2-INDEX.true in
+    let run = run_fewer f good c.args.extent extent c.run_under-count.result c.word_run-run.result.blocks c.run_under-count.ensures c.word_run-run.ensures.some c.word_run-run.ensures.few in
     subst (λ (b : Block). MayStoreRun f v c.word_run-run.result.blocks b c.args.level) (sym c.block.ensures)
-    (may_run good c.requires.store c.first_size-log2.result c.first_size-log2.ensures high run)
+    (may_run good c.requires.store c.size_at-log2.result c.size_at-log2.ensures high run)
 
 pub fill_first-overflow_shl-result : goal.fill_first-overflow_shl-result
 fill_first-overflow_shl-result g t c =
     let small = size_small g.met.F.Format.lawful_layout c.requires.store.stands.at.extent in
-    let e = c.first_size-log2.ensures in omega arith
+    let e = c.size_at-log2.ensures in omega arith
 
 pub fill_first-overflow_add-result : goal.fill_first-overflow_add-result
 fill_first-overflow_add-result g t c =
     let good = g.met.F.Format.lawful_layout in
     let extent = c.requires.store.stands.at.extent in
-    let run = run_fewer g.F.Format.layout good c.args.extent extent c.run-count.result c.word_run-run.result.blocks c.run-count.ensures c.word_run-run.ensures.some c.word_run-run.ensures.few in
-    let fits = run_fits good extent run c.first_size-log2.result c.first_size-log2.ensures in omega arith
+    let run = run_fewer g.F.Format.layout good c.args.extent extent c.run_under-count.result c.word_run-run.result.blocks c.run_under-count.ensures c.word_run-run.ensures.some c.word_run-run.ensures.few in
+    let fits = run_fits good extent run c.size_at-log2.result c.size_at-log2.ensures in omega arith
 
 pub fill_first-returns-then-log2-INDEX-clause-to : goal.fill_first-returns-then-log2-INDEX-clause-to
 fill_first-returns-then-log2-INDEX-clause-to g t c =
@@ -124,9 +124,9 @@ fill_first-returns-then-log2-INDEX-clause-to g t c =
     let good = g.met.F.Format.lawful_layout in
     let v : View = g.H.Holder.view c.args.holder.now in
     let extent = c.requires.store.stands.at.extent in
-    let high = high_by c.INDEX.result f.index c.args.level c.first_size-log2.result (c.INDEX.ensures ∙ sym g.met.F.Format.has_constants.index_is) c.if-log2-INDEX.true in
-    let run = run_fewer f good c.args.extent extent c.run-count.result c.word_run-run.result.blocks c.run-count.ensures c.word_run-run.ensures.some c.word_run-run.ensures.few in
-    to_run good c.requires.store c.first_size-log2.result c.first_size-log2.ensures high run _ (let e : c.args.extent.first + c.word_run-run.result.blocks * 2 ^ c.first_size-log2.result % 2 ^ 64 ≡ c.args.extent.first + c.word_run-run.result.blocks * 2 ^ c.first_size-log2.result % 2 ^ 64 = omega arith in e)
+    let high = high_by c.INDEX.result f.index c.args.level c.size_at-log2.result (c.INDEX.ensures ∙ sym g.met.F.Format.has_constants.index_is) c.if-log2-INDEX.true in
+    let run = run_fewer f good c.args.extent extent c.run_under-count.result c.word_run-run.result.blocks c.run_under-count.ensures c.word_run-run.ensures.some c.word_run-run.ensures.few in
+    to_run good c.requires.store c.size_at-log2.result c.size_at-log2.ensures high run _ (let e : c.args.extent.first + c.word_run-run.result.blocks * 2 ^ c.size_at-log2.result % 2 ^ 64 ≡ c.args.extent.first + c.word_run-run.result.blocks * 2 ^ c.size_at-log2.result % 2 ^ 64 = omega arith in e)
 
 pub fill_first-returns-then-log2-INDEX-clause-fills : goal.fill_first-returns-then-log2-INDEX-clause-fills
 fill_first-returns-then-log2-INDEX-clause-fills g t c =
@@ -134,29 +134,29 @@ fill_first-returns-then-log2-INDEX-clause-fills g t c =
     let good = g.met.F.Format.lawful_layout in
     let v : View = g.H.Holder.view c.args.holder.now in
     let extent = c.requires.store.stands.at.extent in
-    let high = high_by c.INDEX.result f.index c.args.level c.first_size-log2.result (c.INDEX.ensures ∙ sym g.met.F.Format.has_constants.index_is) c.if-log2-INDEX.true in
-    let run = run_fewer f good c.args.extent extent c.run-count.result c.word_run-run.result.blocks c.run-count.ensures c.word_run-run.ensures.some c.word_run-run.ensures.few in
+    let high = high_by c.INDEX.result f.index c.args.level c.size_at-log2.result (c.INDEX.ensures ∙ sym g.met.F.Format.has_constants.index_is) c.if-log2-INDEX.true in
+    let run = run_fewer f good c.args.extent extent c.run_under-count.result c.word_run-run.result.blocks c.run_under-count.ensures c.word_run-run.ensures.some c.word_run-run.ensures.few in
     let w : View = g.H.Holder.view c.write_run.new.holder in
-    fills_run good c.requires.store c.first_size-log2.result c.first_size-log2.ensures high run _
-    (let e : c.args.extent.first + c.word_run-run.result.blocks * 2 ^ c.first_size-log2.result % 2 ^ 64 ≡ c.args.extent.first + c.word_run-run.result.blocks * 2 ^ c.first_size-log2.result % 2 ^ 64 = omega arith in e)
+    fills_run good c.requires.store c.size_at-log2.result c.size_at-log2.ensures high run _
+    (let e : c.args.extent.first + c.word_run-run.result.blocks * 2 ^ c.size_at-log2.result % 2 ^ 64 ≡ c.args.extent.first + c.word_run-run.result.blocks * 2 ^ c.size_at-log2.result % 2 ^ 64 = omega arith in e)
     (subst (λ (b : Block). StoresRun f g.H.Holder.tells v w c.word_run-run.result.blocks b) c.block.ensures c.write_run.ensures.stored)
 
 pub fill_first-fill_entry-requires : goal.fill_first-fill_entry-requires
 fill_first-fill_entry-requires g t c κs within =
     let good = g.met.F.Format.lawful_layout in
-    let low = low_by c.INDEX.result g.F.Format.layout.index c.args.level c.first_size-log2.result _ (c.INDEX.ensures ∙ sym g.met.F.Format.has_constants.index_is) c.first_size-log2.ensures c.if-log2-INDEX.false in
+    let low = low_by c.INDEX.result g.F.Format.layout.index c.args.level c.size_at-log2.result _ (c.INDEX.ensures ∙ sym g.met.F.Format.has_constants.index_is) c.size_at-log2.ensures c.if-log2-INDEX.false in
     let may = may_fill_inner good c.requires low c.under_entry-inner.result c.under_entry-inner.ensures in
     let entry = inner_entry good c.requires.store.stands.at low c.under_entry-inner.result c.under_entry-inner.ensures in
     search (rules, may, entry)
 
 pub fill_first-returns-else-log2-INDEX-clause-to : goal.fill_first-returns-else-log2-INDEX-clause-to
 fill_first-returns-else-log2-INDEX-clause-to g t c =
-    let low = low_by c.INDEX.result g.F.Format.layout.index c.args.level c.first_size-log2.result _ (c.INDEX.ensures ∙ sym g.met.F.Format.has_constants.index_is) c.first_size-log2.ensures c.if-log2-INDEX.false in
+    let low = low_by c.INDEX.result g.F.Format.layout.index c.args.level c.size_at-log2.result _ (c.INDEX.ensures ∙ sym g.met.F.Format.has_constants.index_is) c.size_at-log2.ensures c.if-log2-INDEX.false in
     inner_to g.met.F.Format.lawful_layout c.requires.store.stands.at low c.under_entry-inner.result c.under_entry-inner.ensures
 
 pub fill_first-returns-else-log2-INDEX-clause-fills : goal.fill_first-returns-else-log2-INDEX-clause-fills
 fill_first-returns-else-log2-INDEX-clause-fills g t c =
-    let low = low_by c.INDEX.result g.F.Format.layout.index c.args.level c.first_size-log2.result _ (c.INDEX.ensures ∙ sym g.met.F.Format.has_constants.index_is) c.first_size-log2.ensures c.if-log2-INDEX.false in
+    let low = low_by c.INDEX.result g.F.Format.layout.index c.args.level c.size_at-log2.result _ (c.INDEX.ensures ∙ sym g.met.F.Format.has_constants.index_is) c.size_at-log2.ensures c.if-log2-INDEX.false in
     fills_inner g.met.F.Format.lawful_layout c.requires low c.under_entry-inner.result c.under_entry-inner.ensures c.fill_entry.ensures.fills
 
 -- All of the extent lies under one entry.

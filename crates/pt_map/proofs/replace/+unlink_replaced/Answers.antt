@@ -23,48 +23,48 @@ low_by n index level k size e is low = let same : n * level ≡ index * level = 
 pub unlink_first-overflow_shl-to : goal.unlink_first-overflow_shl-to
 unlink_first-overflow_shl-to g t c =
     let small = size_small g.met.F.Format.lawful_layout c.requires.at.extent in
-    let e = c.first_size-log2.ensures in omega arith
+    let e = c.size_at-log2.ensures in omega arith
 
 pub unlink_first-overflow_add-to : goal.unlink_first-overflow_add-to
 unlink_first-overflow_add-to g t c =
-    let fits = run_fits g.met.F.Format.lawful_layout c.requires.at.extent c.run.ensures c.first_size-log2.result c.first_size-log2.ensures in omega arith
+    let fits = run_fits g.met.F.Format.lawful_layout c.requires.at.extent c.run_under.ensures c.size_at-log2.result c.size_at-log2.ensures in omega arith
 
 pub unlink_first-clear_tables-requires-clause-range : goal.unlink_first-clear_tables-requires-clause-range
 unlink_first-clear_tables-requires-clause-range g t c =
-    let large = large_by c.INDEX.result g.F.Format.layout.index c.args.level c.first_size-log2.result _ (c.INDEX.ensures ∙ sym g.met.F.Format.has_constants.index_is) c.first_size-log2.ensures c.if-log2-INDEX.true in
-    run_range g.met.F.Format.lawful_layout c.requires c.first_size-log2.result c.first_size-log2.ensures c.run.ensures large _ refl
+    let large = large_by c.INDEX.result g.F.Format.layout.index c.args.level c.size_at-log2.result _ (c.INDEX.ensures ∙ sym g.met.F.Format.has_constants.index_is) c.size_at-log2.ensures c.if-log2-INDEX.true in
+    run_range g.met.F.Format.lawful_layout c.requires c.size_at-log2.result c.size_at-log2.ensures c.run_under.ensures large _ refl
 
 pub unlink_first-clear_tables-requires-clause-empty : goal.unlink_first-clear_tables-requires-clause-empty
 unlink_first-clear_tables-requires-clause-empty g t c =
-    let large = large_by c.INDEX.result g.F.Format.layout.index c.args.level c.first_size-log2.result _ (c.INDEX.ensures ∙ sym g.met.F.Format.has_constants.index_is) c.first_size-log2.ensures c.if-log2-INDEX.true in
-    run_empty g.met.F.Format.lawful_layout c.requires c.first_size-log2.result c.first_size-log2.ensures c.run.ensures large _ refl c.levels-levels.result c.levels-levels.ensures.levels
+    let large = large_by c.INDEX.result g.F.Format.layout.index c.args.level c.size_at-log2.result _ (c.INDEX.ensures ∙ sym g.met.F.Format.has_constants.index_is) c.size_at-log2.ensures c.if-log2-INDEX.true in
+    run_empty g.met.F.Format.lawful_layout c.requires c.size_at-log2.result c.size_at-log2.ensures c.run_under.ensures large _ refl c.levels-levels.result c.levels-levels.ensures.levels
 
 pub unlink_first-returns-then-log2-INDEX-clause-to : goal.unlink_first-returns-then-log2-INDEX-clause-to
 unlink_first-returns-then-log2-INDEX-clause-to g t c =
-    let large = large_by c.INDEX.result g.F.Format.layout.index c.args.level c.first_size-log2.result _ (c.INDEX.ensures ∙ sym g.met.F.Format.has_constants.index_is) c.first_size-log2.ensures c.if-log2-INDEX.true in
-    run_to g.met.F.Format.lawful_layout c.requires c.first_size-log2.result c.first_size-log2.ensures c.run.ensures large _ refl
+    let large = large_by c.INDEX.result g.F.Format.layout.index c.args.level c.size_at-log2.result _ (c.INDEX.ensures ∙ sym g.met.F.Format.has_constants.index_is) c.size_at-log2.ensures c.if-log2-INDEX.true in
+    run_to g.met.F.Format.lawful_layout c.requires c.size_at-log2.result c.size_at-log2.ensures c.run_under.ensures large _ refl
 
 pub unlink_first-returns-then-log2-INDEX-clause-unlinks : goal.unlink_first-returns-then-log2-INDEX-clause-unlinks
 unlink_first-returns-then-log2-INDEX-clause-unlinks g t c =
-    let large = large_by c.INDEX.result g.F.Format.layout.index c.args.level c.first_size-log2.result _ (c.INDEX.ensures ∙ sym g.met.F.Format.has_constants.index_is) c.first_size-log2.ensures c.if-log2-INDEX.true in
-    run_unlinked g.met.F.Format.lawful_layout c.requires c.first_size-log2.result c.first_size-log2.ensures c.run.ensures large _ refl c.clear_tables.ensures.unlinks
+    let large = large_by c.INDEX.result g.F.Format.layout.index c.args.level c.size_at-log2.result _ (c.INDEX.ensures ∙ sym g.met.F.Format.has_constants.index_is) c.size_at-log2.ensures c.if-log2-INDEX.true in
+    run_unlinked g.met.F.Format.lawful_layout c.requires c.size_at-log2.result c.size_at-log2.ensures c.run_under.ensures large _ refl c.clear_tables.ensures.unlinks
 
 pub unlink_first-unlink_under-requires : goal.unlink_first-unlink_under-requires
 unlink_first-unlink_under-requires g t c κs within =
     let good = g.met.F.Format.lawful_layout in
-    let low = low_by c.INDEX.result g.F.Format.layout.index c.args.level c.first_size-log2.result _ (c.INDEX.ensures ∙ sym g.met.F.Format.has_constants.index_is) c.first_size-log2.ensures c.if-log2-INDEX.false in
+    let low = low_by c.INDEX.result g.F.Format.layout.index c.args.level c.size_at-log2.result _ (c.INDEX.ensures ∙ sym g.met.F.Format.has_constants.index_is) c.size_at-log2.ensures c.if-log2-INDEX.false in
     let may = may_make_inner good c.requires low c.under_entry-inner.result c.under_entry-inner.ensures in
     let entry = inner_entry good c.requires.at low c.under_entry-inner.result c.under_entry-inner.ensures in
     search (rules, may, entry)
 
 pub unlink_first-returns-else-log2-INDEX-clause-to : goal.unlink_first-returns-else-log2-INDEX-clause-to
 unlink_first-returns-else-log2-INDEX-clause-to g t c =
-    let low = low_by c.INDEX.result g.F.Format.layout.index c.args.level c.first_size-log2.result _ (c.INDEX.ensures ∙ sym g.met.F.Format.has_constants.index_is) c.first_size-log2.ensures c.if-log2-INDEX.false in
+    let low = low_by c.INDEX.result g.F.Format.layout.index c.args.level c.size_at-log2.result _ (c.INDEX.ensures ∙ sym g.met.F.Format.has_constants.index_is) c.size_at-log2.ensures c.if-log2-INDEX.false in
     inner_to g.met.F.Format.lawful_layout c.requires.at low c.under_entry-inner.result c.under_entry-inner.ensures
 
 pub unlink_first-returns-else-log2-INDEX-clause-unlinks : goal.unlink_first-returns-else-log2-INDEX-clause-unlinks
 unlink_first-returns-else-log2-INDEX-clause-unlinks g t c =
-    let low = low_by c.INDEX.result g.F.Format.layout.index c.args.level c.first_size-log2.result _ (c.INDEX.ensures ∙ sym g.met.F.Format.has_constants.index_is) c.first_size-log2.ensures c.if-log2-INDEX.false in
+    let low = low_by c.INDEX.result g.F.Format.layout.index c.args.level c.size_at-log2.result _ (c.INDEX.ensures ∙ sym g.met.F.Format.has_constants.index_is) c.size_at-log2.ensures c.if-log2-INDEX.false in
     inner_unlinked g.met.F.Format.lawful_layout c.requires low c.under_entry-inner.result c.under_entry-inner.ensures c.unlink_under.ensures.unlinks
 
 -- An extent under one entry.

@@ -1,5 +1,5 @@
-use Rattle.std.proofs.Common.{◌≡◌, ℕ, ◌+◌, ◌*◌, ◌/◌, ◌<◌, ◌≤◌, sym, ◌∙◌, subst, arith}
-use Rattle.pt_model.specs.Layout.{pages_of_entry, pages_of_table}
+use Rattle.std.proofs.Common.{◌≡◌, ℕ, ◌/◌, ◌<◌, ◌≤◌, ap, sym, ◌∙◌, subst, arith}
+use Rattle.pt_model.specs.Layout.{pages_of_table}
 use Rattle.pt_view.proofs.Loads.{root_loads}
 use Rattle.pt_map.proofs.PastRoot.{input_few}
 use Rattle.pt_tile.proofs.FirstSizes.{size_small}
@@ -9,16 +9,15 @@ use Rattle.pt_walk.specs.declared.range.Met.{Met}
 use Rattle.pt_walk.specs.Walks.{StopsAt}
 use Rattle.pt_map.proofs.MapFromRoot.{Begun, Reached, clear_here, fixed_reach, low_size, may_map, owns_root, path_long, range_root, to_table}
 use Rattle.pt_map.proofs.MapAnswers.{Done, accounts, answers, rests_after}
-use Rattle.pt_map.proofs.OneBlock.{block_end}
 use Rattle.pt_map.proofs.request.map_extent.Given.{Over}
-use Rattle.pt_map.proofs.request.map_extent.Goals.{else-GROWS-via-then-GROWS+else-extent-spine_end, else-GROWS-via-else-GROWS, After-INDEX, After-climb, After-map_from, After-descend-stop}
+use Rattle.pt_map.proofs.request.map_extent.Goals.{else-GROWS-via-then-GROWS+else-extent-spine_end, else-GROWS-via-else-GROWS, After-descend-arg-1, After-climb, After-map_from, After-descend-stop}
 use Rattle.pt_map.proofs.MapFromTable.{linked_walked}
 use Rattle.pt_map.proofs.BeyondAnswers.{accounts_beyond, answers_beyond, may_beyond, rests_beyond}
 use Rattle.pt_map.proofs.request.map_extent.Goals as goal
 
 -- What is known at the root, at the table over all of the extent, and at the end.
 
-begun : (g : Over) (c : After-INDEX g) → Begun g.F.Format.layout g.H.Holder.tells (g.H.Holder.alone c.args.holder.now) (g.H.Holder.view c.args.holder.now) (g.H.Holder.view c.root-root.new.self) c.args.extent c.root-root.result
+begun : (g : Over) (c : After-descend-arg-1 g) → Begun g.F.Format.layout g.H.Holder.tells (g.H.Holder.alone c.args.holder.now) (g.H.Holder.view c.args.holder.now) (g.H.Holder.view c.root-root.new.self) c.args.extent c.root-root.result
 begun g c = record {
   may = c.requires.may;
   reach = elim c.else-GROWS.branch [
@@ -28,15 +27,15 @@ begun g c = record {
   rooted = c.root-root.ensures.rooted;
 }
 
--- the level of an extent's first block, as the code makes it
-step_over : (log2 index size width : ℕ) → log2 ≡ size → index ≡ width → log2 / index ≡ size / width
-step_over log2 index size width a b = λ i. a i / b i
+-- the level of an extent's first block
+level_of : (lowest log2 size index : ℕ) → lowest ≡ log2 / index → log2 ≡ size → lowest ≡ size / index
+level_of lowest log2 size index a b = a ∙ ap (λ (k : ℕ). k / index) b
 
 reached : (g : Over) (c : After-descend-stop g) → Begun g.F.Format.layout g.H.Holder.tells (g.H.Holder.alone c.args.holder.now) (g.H.Holder.view c.args.holder.now) (g.H.Holder.view c.root-root.new.self) c.args.extent c.root-root.result → Reached g.F.Format.layout g.H.Holder.tells (g.H.Holder.alone c.args.holder.now) (g.H.Holder.view c.args.holder.now) (g.H.Holder.view c.root-root.new.self) (g.H.Holder.view c.descend-stop.new.holder) c.args.extent c.root-root.result c.descend-stop.result.level
 reached g c b =
     let good = g.met.F.Format.lawful_layout in
     let e = c.descend-stop.ensures in
-    let level = step_over c.args.log2 c.INDEX.result _ _ c.requires.size (c.INDEX.ensures ∙ sym g.met.F.Format.has_constants.index_is) in
+    let level = level_of c.args.lowest c.args.log2 _ _ c.requires.lowest c.requires.size in
     record {
       begun = b;
       walked = e.walked;
@@ -51,17 +50,16 @@ done g c r = record { reached = r; ends = c.map_from.ensures.ends.ends; left = c
 
 pub descend-stop-requires-clause-range : goal.descend-stop-requires-clause-range
 descend-stop-requires-clause-range g c =
-    let at = goal.at.descend-stop-requires-clause-range g c in range_root g.met.F.Format.lawful_layout (begun g at.After-INDEX)
+    range_root g.met.F.Format.lawful_layout (begun g c)
 
 pub descend-stop-requires-clause-lowest : goal.descend-stop-requires-clause-lowest
 descend-stop-requires-clause-lowest g c =
-    let at = goal.at.descend-stop-requires-clause-lowest g c in
-    let level = step_over c.args.log2 c.INDEX.result _ _ c.requires.size (c.INDEX.ensures ∙ sym g.met.F.Format.has_constants.index_is) in
-    subst (λ (n : ℕ). n ≤ c.root-root.result) (sym level) (low_size g.met.F.Format.lawful_layout (begun g at.After-INDEX))
+    let level = level_of c.args.lowest c.args.log2 _ _ c.requires.lowest c.requires.size in
+    subst (λ (n : ℕ). n ≤ c.root-root.result) (sym level) (low_size g.met.F.Format.lawful_layout (begun g c))
 
 pub map_from-requires-clause-may : goal.map_from-requires-clause-may
 map_from-requires-clause-may g c =
-    let at = goal.at.map_from-requires-clause-may g c in may_map g.met.F.Format.lawful_layout (reached g at.After-descend-stop (begun g at.After-INDEX))
+    let at = goal.at.map_from-requires-clause-may g c in may_map g.met.F.Format.lawful_layout (reached g at.After-descend-stop (begun g at.After-descend-arg-1))
 
 pub map_from-requires-clause-leaf : goal.map_from-requires-clause-leaf
 map_from-requires-clause-leaf g c = λ leaf.
@@ -69,24 +67,24 @@ map_from-requires-clause-leaf g c = λ leaf.
     let at = goal.at.map_from-requires-clause-leaf g c in
     let d : View = g.H.Holder.view c.descend-stop.new.holder in
     let level = c.descend-stop.result.level in
-    subst (λ (m : Met). StopsAt f d c.args.extent.first c.args.extent.end (c.args.log2 / c.INDEX.result) level m) leaf c.descend-stop.ensures.stops
-    (may_map g.met.F.Format.lawful_layout (reached g at.After-descend-stop (begun g at.After-INDEX))).owns
+    subst (λ (m : Met). StopsAt f d c.args.extent.first c.args.extent.end c.args.lowest level m) leaf c.descend-stop.ensures.stops
+    (may_map g.met.F.Format.lawful_layout (reached g at.After-descend-stop (begun g at.After-descend-arg-1))).owns
 
 pub map_from-requires-clause-tables : goal.map_from-requires-clause-tables
 map_from-requires-clause-tables g c =
     let at = goal.at.map_from-requires-clause-tables g c in
-    let long = path_long g.met.F.Format.lawful_layout (reached g at.After-descend-stop (begun g at.After-INDEX)) in omega arith
+    let long = path_long g.met.F.Format.lawful_layout (reached g at.After-descend-stop (begun g at.After-descend-arg-1)) in omega arith
 
 pub returns-clause-rests : goal.returns-clause-rests
-returns-clause-rests g c = let at = goal.at.returns-clause-rests g c in rests_after g.met.F.Format.lawful_layout (done g at.After-map_from (reached g at.After-descend-stop (begun g at.After-INDEX)))
+returns-clause-rests g c = let at = goal.at.returns-clause-rests g c in rests_after g.met.F.Format.lawful_layout (done g at.After-map_from (reached g at.After-descend-stop (begun g at.After-descend-arg-1)))
 
 pub returns-clause-answered : goal.returns-clause-answered
-returns-clause-answered g c = let at = goal.at.returns-clause-answered g c in answers g.met.F.Format.lawful_layout (done g at.After-map_from (reached g at.After-descend-stop (begun g at.After-INDEX)))
+returns-clause-answered g c = let at = goal.at.returns-clause-answered g c in answers g.met.F.Format.lawful_layout (done g at.After-map_from (reached g at.After-descend-stop (begun g at.After-descend-arg-1)))
 
 pub returns-clause-accounted : goal.returns-clause-accounted
 returns-clause-accounted g c = λ a.
     let at = goal.at.returns-clause-accounted g c in
-    let r = reached g at.After-descend-stop (begun g at.After-INDEX) in
+    let r = reached g at.After-descend-stop (begun g at.After-descend-arg-1) in
     let a_root = c.root-root.ensures.stays.still_alone a in
     accounts g.met.F.Format.lawful_layout (done g at.After-map_from r) (g.H.Holder.aside c.args.holder.now)
     (linked_walked (g.H.Holder.view c.args.holder.now) (g.H.Holder.view c.descend-stop.new.holder) (g.H.Holder.aside c.args.holder.now) (g.H.Holder.aside c.descend-stop.new.holder)
@@ -99,12 +97,7 @@ map_from-requires-clause-small g c =
     let is = c.requires.size in omega arith
 
 pub descend-stop-requires-clause-whole : goal.descend-stop-requires-clause-whole
-descend-stop-requires-clause-whole g c = λ t.
-    let w = c.requires.whole t in
-    let f = g.F.Format.layout in
-    let index : c.INDEX.result ≡ f.index = c.INDEX.ensures ∙ sym g.met.F.Format.has_constants.index_is in
-    subst (λ (i : ℕ). c.args.extent.end ≤ (c.args.extent.first / pages_of_entry f (c.args.log2 / i) + 1) * pages_of_entry f (c.args.log2 / i)) (sym index)
-    (block_end f g.met.F.Format.lawful_layout c.args.extent c.requires.may.inside.extent (c.args.log2 / f.index) c.args.log2 c.requires.size (sym w.0) w.1)
+descend-stop-requires-clause-whole g c = c.requires.whole
 
 -- The extent ends past the pages under the root.
 

@@ -27,48 +27,48 @@ low_by n index level k size e is low = let same : n * level ≡ index * level = 
 pub survey_first-overflow_shl-to : goal.survey_first-overflow_shl-to
 survey_first-overflow_shl-to g t c =
     let small = size_small g.met.F.Format.lawful_layout c.requires.at.extent in
-    let e = c.first_size-log2.ensures in omega arith
+    let e = c.size_at-log2.ensures in omega arith
 
 pub survey_first-overflow_add-to : goal.survey_first-overflow_add-to
 survey_first-overflow_add-to g t c =
-    let fits = run_fits g.met.F.Format.lawful_layout c.requires.at.extent c.run.ensures c.first_size-log2.result c.first_size-log2.ensures in omega arith
+    let fits = run_fits g.met.F.Format.lawful_layout c.requires.at.extent c.run_under.ensures c.size_at-log2.result c.size_at-log2.ensures in omega arith
 
 pub survey_first-look-requires-clause-may : goal.survey_first-look-requires-clause-may
 survey_first-look-requires-clause-may g t c =
-    let large = large_by c.INDEX.result g.F.Format.layout.index c.args.level c.first_size-log2.result _ (c.INDEX.ensures ∙ sym g.met.F.Format.has_constants.index_is) c.first_size-log2.ensures c.if-log2-INDEX.true in
-    may_survey_run g.met.F.Format.lawful_layout c.requires c.first_size-log2.result c.first_size-log2.ensures c.run.ensures large _ refl c.up_to.result c.up_to.ensures
+    let large = large_by c.INDEX.result g.F.Format.layout.index c.args.level c.size_at-log2.result _ (c.INDEX.ensures ∙ sym g.met.F.Format.has_constants.index_is) c.size_at-log2.ensures c.if-log2-INDEX.true in
+    may_survey_run g.met.F.Format.lawful_layout c.requires c.size_at-log2.result c.size_at-log2.ensures c.run_under.ensures large _ refl c.up_to.result c.up_to.ensures
 
 pub survey_first-look-requires-clause-none : goal.survey_first-look-requires-clause-none
 survey_first-look-requires-clause-none g t c =
-    let large = large_by c.INDEX.result g.F.Format.layout.index c.args.level c.first_size-log2.result _ (c.INDEX.ensures ∙ sym g.met.F.Format.has_constants.index_is) c.first_size-log2.ensures c.if-log2-INDEX.true in
-    none_in_run g.met.F.Format.lawful_layout c.requires c.first_size-log2.result c.first_size-log2.ensures c.run.ensures large _ refl c.up_to.result c.up_to.ensures
+    let large = large_by c.INDEX.result g.F.Format.layout.index c.args.level c.size_at-log2.result _ (c.INDEX.ensures ∙ sym g.met.F.Format.has_constants.index_is) c.size_at-log2.ensures c.if-log2-INDEX.true in
+    none_in_run g.met.F.Format.lawful_layout c.requires c.size_at-log2.result c.size_at-log2.ensures c.run_under.ensures large _ refl c.up_to.result c.up_to.ensures
 
 pub survey_first-returns-then-log2-INDEX-clause-to : goal.survey_first-returns-then-log2-INDEX-clause-to
 survey_first-returns-then-log2-INDEX-clause-to g t c =
-    let large = large_by c.INDEX.result g.F.Format.layout.index c.args.level c.first_size-log2.result _ (c.INDEX.ensures ∙ sym g.met.F.Format.has_constants.index_is) c.first_size-log2.ensures c.if-log2-INDEX.true in
-    run_first g.met.F.Format.lawful_layout c.requires c.first_size-log2.result c.first_size-log2.ensures c.run.ensures large _ refl
+    let large = large_by c.INDEX.result g.F.Format.layout.index c.args.level c.size_at-log2.result _ (c.INDEX.ensures ∙ sym g.met.F.Format.has_constants.index_is) c.size_at-log2.ensures c.if-log2-INDEX.true in
+    run_first g.met.F.Format.lawful_layout c.requires c.size_at-log2.result c.size_at-log2.ensures c.run_under.ensures large _ refl
 
 pub survey_first-returns-then-log2-INDEX-clause-surveyed : goal.survey_first-returns-then-log2-INDEX-clause-surveyed
 survey_first-returns-then-log2-INDEX-clause-surveyed g t c =
-    let large = large_by c.INDEX.result g.F.Format.layout.index c.args.level c.first_size-log2.result _ (c.INDEX.ensures ∙ sym g.met.F.Format.has_constants.index_is) c.first_size-log2.ensures c.if-log2-INDEX.true in
-    surveyed_run g.met.F.Format.lawful_layout c.requires c.first_size-log2.result c.first_size-log2.ensures c.run.ensures large _ refl c.up_to.result c.up_to.ensures c.look.ensures.surveyed
+    let large = large_by c.INDEX.result g.F.Format.layout.index c.args.level c.size_at-log2.result _ (c.INDEX.ensures ∙ sym g.met.F.Format.has_constants.index_is) c.size_at-log2.ensures c.if-log2-INDEX.true in
+    surveyed_run g.met.F.Format.lawful_layout c.requires c.size_at-log2.result c.size_at-log2.ensures c.run_under.ensures large _ refl c.up_to.result c.up_to.ensures c.look.ensures.surveyed
 
 pub survey_first-survey_under-requires : goal.survey_first-survey_under-requires
 survey_first-survey_under-requires g t c κs within =
     let good = g.met.F.Format.lawful_layout in
-    let low = low_by c.INDEX.result g.F.Format.layout.index c.args.level c.first_size-log2.result _ (c.INDEX.ensures ∙ sym g.met.F.Format.has_constants.index_is) c.first_size-log2.ensures c.if-log2-INDEX.false in
+    let low = low_by c.INDEX.result g.F.Format.layout.index c.args.level c.size_at-log2.result _ (c.INDEX.ensures ∙ sym g.met.F.Format.has_constants.index_is) c.size_at-log2.ensures c.if-log2-INDEX.false in
     let may = may_survey_inner good c.requires low c.under_entry-inner.result c.under_entry-inner.ensures in
     let entry = inner_entry good c.requires.at low c.under_entry-inner.result c.under_entry-inner.ensures in
     search (rules, may, entry)
 
 pub survey_first-returns-clause-to : goal.survey_first-returns-clause-to
 survey_first-returns-clause-to g t c =
-    let low = low_by c.INDEX.result g.F.Format.layout.index c.args.level c.first_size-log2.result _ (c.INDEX.ensures ∙ sym g.met.F.Format.has_constants.index_is) c.first_size-log2.ensures c.if-log2-INDEX.false in
+    let low = low_by c.INDEX.result g.F.Format.layout.index c.args.level c.size_at-log2.result _ (c.INDEX.ensures ∙ sym g.met.F.Format.has_constants.index_is) c.size_at-log2.ensures c.if-log2-INDEX.false in
     inner_to g.met.F.Format.lawful_layout c.requires.at low c.under_entry-inner.result c.under_entry-inner.ensures
 
 pub survey_first-returns-clause-surveyed : goal.survey_first-returns-clause-surveyed
 survey_first-returns-clause-surveyed g t c =
-    let low = low_by c.INDEX.result g.F.Format.layout.index c.args.level c.first_size-log2.result _ (c.INDEX.ensures ∙ sym g.met.F.Format.has_constants.index_is) c.first_size-log2.ensures c.if-log2-INDEX.false in
+    let low = low_by c.INDEX.result g.F.Format.layout.index c.args.level c.size_at-log2.result _ (c.INDEX.ensures ∙ sym g.met.F.Format.has_constants.index_is) c.size_at-log2.ensures c.if-log2-INDEX.false in
     surveyed_inner g.met.F.Format.lawful_layout c.requires low c.under_entry-inner.result c.under_entry-inner.ensures c.survey_under.ensures.surveyed
 
 -- An extent under one entry.

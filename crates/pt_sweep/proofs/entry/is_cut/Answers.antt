@@ -1,10 +1,10 @@
-use Rattle.std.proofs.Common.{◌≡◌, ◌⊎◌, ◌-◌, ◌*◌, ◌%◌, ◌^◌, ◌<◌, ◌≤◌, ℕ, true, ap, sym, subst, ◌∙◌, arith}
+use Rattle.std.proofs.Common.{◌≡◌, ◌-◌, ◌+◌, ◌*◌, ◌/◌, ◌%◌, ◌^◌, ◌≤◌, ℕ, ap, sym, subst, ◌∙◌, arith}
 use Rattle.std.specs.Prelude.{IsBitSet, not}
 use Rattle.std.proofs.lemmas.Bool.{eq-eqb, false≢true, ne_eqb}
 use Rattle.std.proofs.lemmas.Nat.{one_shl}
-use Rattle.pt_model.specs.declared.block.Block.{Block}
-use Rattle.pt_model.specs.Layout.{end_of}
-use Rattle.pt_sweep.proofs.OneEntry.{one_size}
+use Rattle.pt_model.specs.Layout.{pages_of_entry}
+use Rattle.pt_walk.specs.RangeWalks.{IsBlockOf}
+use Rattle.pt_sweep.proofs.OneEntry.{one_size, page_alone}
 use Rattle.pt_sweep.proofs.entry.is_cut.Goals as goal
 
 pub returns-then-sizes-pages : goal.returns-then-sizes-pages
@@ -16,10 +16,13 @@ returns-then-sizes-pages g c b is =
       λ out. ap not (ne_eqb (c.args.end - c.args.first) (1 * 2 ^ c.entry_bits.result % 2 ^ 64) (λ same. h.0 (same ∙ pages) out)),
     )
 
-pub reaches_out-requires : goal.reaches_out-requires
-reaches_out-requires g c = subst (λ (b : Block). end_of b ≤ 2 ^ 52) (sym (c.block_of.ensures c.requires.some.0 c.requires.some.1)) c.requires.some.2
+pub is_page-requires-clause-some : goal.is_page-requires-clause-some
+is_page-requires-clause-some g c =
+    (c.requires.some.0, subst (λ (l : ℕ). IsBlockOf g.F.Format.layout l c.args.word c.args.first c.requires.some.0) c.if-level-eq0.true c.requires.some.1)
 
-pub returns : goal.returns
-returns g c b is =
-    let same = c.block_of.ensures b is in
-    subst (λ (x : Block). ((c.reaches_out.result ≡ true) → (x.first < c.args.first) ⊎ (c.args.end < end_of x)) × ((x.first < c.args.first) ⊎ (c.args.end < end_of x) → (c.reaches_out.result ≡ true))) same c.reaches_out.ensures
+pub returns-then-is_page : goal.returns-then-is_page
+returns-then-is_page g c b is =
+    let f = g.F.Format.layout in
+    let here = subst (λ (l : ℕ). IsBlockOf f l c.args.word c.args.first b) c.if-level-eq0.true is in
+    let one = subst (λ (l : ℕ). c.args.end ≤ (c.args.first / pages_of_entry f l + 1) * pages_of_entry f l) c.if-level-eq0.true c.requires.one in
+    page_alone f b (c.is_page.ensures c.if-is_page.true b here) here c.requires.a_page one

@@ -44,3 +44,8 @@ returns-clause-unmaps g c =
     (λ same. c.climb.ensures.left [] (_ ∷ e.down.nodes) (same ∙ e.down.path ∙ ap (λ (xs : List Node). xs ++ e.down.nodes) rooted.path.1)
     (let many = e.down.so_many in omega arith))
     c.clear_from-pages.result c.clear_from-pages.ensures.clears
+
+pub descend-stop-requires-clause-whole : goal.descend-stop-requires-clause-whole
+descend-stop-requires-clause-whole g c = λ t.
+    let one = c.requires.one in
+    let wide = wider_entry g.F.Format.layout c.args.range.first c.args.lowest (c.args.lowest + 1) (omega arith) in omega arith

@@ -6,7 +6,7 @@ use Rattle.pt_model.specs.Layout.{Layout, is_size, input_pages, output_pages}
 use Rattle.pt_model.specs.Tiling.{greatest_size}
 use Rattle.pt_tile.specs.Sizes.{IsLarger}
 use Rattle.pt_tile.proofs.TileFacts.{greatest_at}
-use Rattle.pt_tile.proofs.RunFacts.{IsCut, run_some, fitting_some, fewer_fit, next_up, cut_is}
+use Rattle.pt_tile.proofs.RunFacts.{IsCut, run_some, fitting_some, fewer_fit, next_up, none_up, cut_is}
 use Rattle.pt_tile.proofs.runs.run_length.Given.{Over}
 use Rattle.pt_tile.proofs.runs.run_length.Goals as goal
 use Rattle.pt_tile.proofs.runs.run_length.Goals.{After-min}
@@ -39,8 +39,9 @@ returns-in-None-clause-run g c = λ prot.
     let top = greatest_at g.F.Format.layout c.args.first c.args.out c.args.left c.args.log2 pages
     c.requires.some c.requires.in_input c.requires.in_output c.requires.first in
     let fits : c.args.left / 2 ^ c.args.log2 * 2 ^ c.args.log2 ≤ c.args.left = fewer_fit c.args.log2 c.args.left (c.args.left / 2 ^ c.args.log2) (omega arith) in
-    run_some g.F.Format.layout prot pages c.args.log2 (c.args.first + c.args.left) None (c.args.left / 2 ^ c.args.log2) c.args.first c.args.out c.args.left
-    c.requires.in_input c.requires.in_output top c.in-None.ensures.least tt (fitting_some c.args.log2 c.args.left top.fits) fits (omega arith)
+    run_some g.F.Format.layout prot pages c.args.log2 (c.args.first + c.args.left) (c.args.left / 2 ^ c.args.log2) c.args.first c.args.out c.args.left
+    c.requires.in_input c.requires.in_output top
+    (none_up g.F.Format.layout c.args.log2 c.args.first c.args.out (c.args.first + c.args.left) None c.in-None.ensures.least tt) (fitting_some c.args.log2 c.args.left top.fits) fits (omega arith)
 
 -- the number of blocks with the shift as a power
 by_power : (k first left size down count : ℕ) → size < 64 →
@@ -73,9 +74,10 @@ returns-in-Some-clause-run g c = λ prot.
     let top = greatest_at g.F.Format.layout c.args.first c.args.out c.args.left c.args.log2 pages
     c.requires.some c.requires.in_input c.requires.in_output c.requires.first in
     let is = is_cut g (goal.at.returns-in-Some-clause-run g c).After-min in
-    run_some g.F.Format.layout prot pages c.args.log2 (c.align_down.result + 2 ^ c.in-Some.size) (Some c.in-Some.size) c.min.result
-    c.args.first c.args.out c.args.left c.requires.in_input c.requires.in_output top c.in-Some.ensures.least
-    (next_up c.args.first c.in-Some.size c.align_down.result c.align_down.ensures.multiple c.align_down.ensures.at_most) is.some is.fits is.before
+    run_some g.F.Format.layout prot pages c.args.log2 (c.align_down.result + 2 ^ c.in-Some.size) c.min.result
+    c.args.first c.args.out c.args.left c.requires.in_input c.requires.in_output top
+    (none_up g.F.Format.layout c.args.log2 c.args.first c.args.out (c.align_down.result + 2 ^ c.in-Some.size) (Some c.in-Some.size) c.in-Some.ensures.least
+    (next_up c.args.first c.in-Some.size c.align_down.result c.align_down.ensures.multiple c.align_down.ensures.at_most)) is.some is.fits is.before
 
 pub returns-in-Some-clause-ends : goal.returns-in-Some-clause-ends
 returns-in-Some-clause-ends g c = (is_cut g (goal.at.returns-in-Some-clause-ends g c).After-min).ends

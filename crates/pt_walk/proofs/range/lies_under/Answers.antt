@@ -1,4 +1,4 @@
-use Rattle.std.proofs.Common.{refl, arith}
+use Rattle.std.proofs.Common.{◌+◌, refl, arith}
 use Rattle.std.proofs.lemmas.Bool.{le-leb, leb-true}
 use Rattle.pt_model.proofs.Quotients.{wider_entry}
 use Rattle.pt_walk.proofs.Cuts.{pages_few}
@@ -7,7 +7,7 @@ use Rattle.pt_walk.proofs.range.lies_under.Goals as goal
 pub returns-then-whole : goal.returns-then-whole
 returns-then-whole g c =
     let small = c.requires.whole c.if-whole.true in
-    let wide = wider_entry g.F.Format.layout c.args.first c.args.lowest c.args.level c.requires.lowest in
+    let wide = wider_entry g.F.Format.layout c.args.first (c.args.lowest + 1) c.args.level (let low = c.requires.lowest in omega arith) in
     (λ t. omega arith, λ le. refl)
 
 pub returns : goal.returns
