@@ -48,10 +48,12 @@ census_lines (r ∷ rs) = census_line r.answer ++ census_lines rs
 
 abbrev pub head_line : (number : ℕ) → Script → List ℕ
 head_line number s =
-    codes "made " ++ decimal number ++ codes " format " ++ name_text s.format ++ codes " lines " ++ decimal (length (lines_in s)) ++ codes "\n"
+    codes "made " ++ decimal number ++ codes " format " ++ name_text s.format
+    ++ codes " lines " ++ decimal (length (lines_in s)) ++ codes "\n"
 
 abbrev pub maps_line : List Reply → List ℕ
-maps_line replies = codes "maps ok " ++ decimal (count_of Mapped replies) ++ codes " occupied " ++ decimal (count_of Occupied replies) ++ codes "\n"
+maps_line replies =
+    codes "maps ok " ++ decimal (count_of Mapped replies) ++ codes " occupied " ++ decimal (count_of Occupied replies) ++ codes "\n"
 
 abbrev pub unmaps_line : List Reply → List ℕ
 unmaps_line replies =
@@ -59,7 +61,8 @@ unmaps_line replies =
     ++ codes " pages " ++ decimal (pages_unmapped replies) ++ codes "\n"
 
 abbrev pub lookups_line : List Reply → List ℕ
-lookups_line replies = codes "lookups found " ++ decimal (count_of Found replies) ++ codes " none " ++ decimal (count_of Nothing replies) ++ codes "\n"
+lookups_line replies =
+    codes "lookups found " ++ decimal (count_of Found replies) ++ codes " none " ++ decimal (count_of Nothing replies) ++ codes "\n"
 
 abbrev pub summary : (number : ℕ) → Script → List Reply → List ℕ
 summary number s replies =
