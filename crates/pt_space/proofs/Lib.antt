@@ -1,5 +1,10 @@
 pub mod Stepping
 pub mod Showing
+pub mod Nodes
+pub mod Roots
+pub mod Enters
+pub mod Takes
+pub mod Purses
 pub mod Opens
 pub mod NewWords
 pub mod Stored

@@ -1,5 +1,5 @@
 -- The words of a new space, and its view.
-use Rattle.std.proofs.Common.{◌≡◌, ℕ, zero, suc, ◌+◌, ◌*◌, ◌<◌, ◌≤◌, List, length, refl, ap, sym, ◌∙◌, subst, arith, get_or-set_same, get_or-set_other, length-set}
+use Rattle.std.proofs.Common.{◌≡◌, ℕ, ◌+◌, ◌*◌, ◌<◌, ◌≤◌, List, length, sym, ◌∙◌, subst, arith, get_or-set_same, get_or-set_other, length-set}
 use Rattle.std.specs.Prelude.{None, Some, slice_index, slice_set}
 use Rattle.pt_model.specs.Layout.{Layout}
 use Rattle.pt_model.specs.Tables.{spine_position, starting_top}
@@ -9,7 +9,7 @@ use mathlib.Core.Logic.{dite}
 use native.Mathlib.Decide.{ℕ_discrete}
 use Rattle.pt_format.specs.Laws.{IsLayout}
 use Rattle.pt_rule.specs.Tags.{held_word}
-use Rattle.pt_rule.specs.Opening.{IsNew, counting}
+use Rattle.pt_rule.specs.Opening.{IsNew}
 use Rattle.pt_space.specs.Chains.{IsChain, IsKept, NamesNext}
 
 -- one frame more names the next

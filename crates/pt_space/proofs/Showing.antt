@@ -1,24 +1,24 @@
 -- The fields of a lease show the view of its seat, before a step and after it.
-use Rattle.std.proofs.Common.{◌≡◌, ℕ, zero, suc, Bool, true, false, ◌<◌, ◌≤◌, List, [], ◌∷◌, ◌++◌, length, take, drop, refl, ap, sym, ◌∙◌, arith, subst}
+use Rattle.std.proofs.Common.{◌≡◌, ℕ, zero, suc, Bool, true, false, ◌<◌, ◌≤◌, List, [], ◌∷◌, ◌++◌, length, take, drop, refl, ap, sym, ◌∙◌, arith, subst, pow_mono, ◌-◌, ◌^◌}
 use Rattle.std.specs.Prelude.{Option, None, if◌then◌else◌}
 use Rattle.std.proofs.lemmas.List.{append-nil}
 use prog.Atomic.{either}
 use mathlib.Core.Option.{some, some-ne-none}
 use lib.ListN.{get_elem?}
-use Rattle.pt_model.specs.Layout.{Layout}
+use Rattle.pt_model.specs.Layout.{Layout, input_pages}
 use Rattle.pt_model.specs.Words.{word_count}
 use Rattle.pt_format.specs.Laws.{IsLayout, WordsDiffer}
 use Rattle.pt_format.specs.Manual.{StepsAgree}
 use Rattle.pt_view.specs.declared.view.View.{View}
 use Rattle.pt_view.specs.declared.view.Node.{Node}
-use Rattle.pt_view.specs.Views.{SamePurse, SameRange}
+use Rattle.pt_view.specs.Views.{SameRange}
 use Rattle.pt_rule.specs.Tags.{first_or}
 use Rattle.pt_rule.specs.Holds.{Holds}
 use Rattle.pt_rule.specs.Kinds.{Kind, May, place_of, put}
 use Rattle.pt_rule.specs.Meets.{Says}
 use Rattle.pt_rule.specs.WholeView.{prepared_frame}
 use Rattle.pt_rule.proofs.Laws.{steps_meet}
-use Rattle.pt_space.specs.Standing.{Fields, GoesOn, MayStep, Shows, Stepped, cut_to}
+use Rattle.pt_space.specs.Standing.{Fields, MayStep, Shows, Stepped, cut_to}
 
 pub taken_again : {A : Type 0} → (d : ℕ) (xs : List A) → take d (take d xs) ≡ take d xs
 taken_again zero xs = refl
@@ -78,7 +78,7 @@ module _ {f : Layout} {n l : ℕ} {v : View} {o : Fields} (s : Shows f n l v o) 
   says good differ agree {k} {found} {w} may t = subst (Says f k (cut_to o.depth v) found) (sym t.is) (steps_meet f good differ agree n s.holds.limit (cut_to o.depth v) k found may t.tells)
 
   -- after a step that keeps the range and the end mark
-  module _ {w : View} (holds : Holds f n l w) (range : SameRange v w) (end : w.end ≡ v.end) where
+  module _ {w : View} (holds : Holds f n l w) (range : SameRange (cut_to o.depth v) w) (end : w.end ≡ v.end) where
     -- and the path and the prepared frame
     pub shows_purse : {head : Option ℕ} {held : ℕ} → w.path ≡ take o.depth v.path → w.prepared ≡ v.prepared → first_or None w.purse ≡ head → length w.purse ≡ held →
         Shows f n l w (record o { head = head; held = held })
@@ -112,3 +112,7 @@ may_next {w = w} holds may word place within puts puts_is = record {
   within = within;
   puts_is = puts_is;
 }
+
+-- a space has at most 2 ^ 52 pages
+pub pages_few : (f : Layout) → IsLayout f → input_pages f ≤ 2 ^ 52
+pages_few f good = let bits : f.input - f.granule ≤ 52 = (let a = good.pages_high in omega arith) in pow_mono bits

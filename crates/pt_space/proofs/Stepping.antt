@@ -14,7 +14,7 @@ use Rattle.pt_view.specs.declared.view.Node.{Node}
 use Rattle.pt_view.specs.declared.view.Absence.TheVariants.{Zero}
 use Rattle.pt_view.specs.Calls.{lowest}
 use Rattle.pt_rule.specs.Lawful.{Lawful}
-use Rattle.pt_rule.specs.Kinds.{Kind, after, put, place_of, retrace, take, place, unplace, free, mark, look_tag, load_root, look, install, write, clear, unlink, bridge, unbridge, raise, met_zero, met_word, deeper, with_child, frame_of, level_at, first_page, unlinked}
+use Rattle.pt_rule.specs.Kinds.{Kind, after, place_of, retrace, take, place, unplace, free, mark, look_tag, load_root, look, install, write, clear, unlink, bridge, unbridge, raise, met_zero, met_word, deeper, with_child, frame_of, level_at, first_page, unlinked}
 use Rattle.pt_rule.proofs.HolderFacts.{stands_inside}
 use Rattle.pt_rule.proofs.Laws.{fronts_keep, steps_keep, views_hold}
 use Rattle.pt_space.specs.Standing.{MayStep, Stepped}

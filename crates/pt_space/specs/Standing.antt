@@ -1,5 +1,5 @@
 -- What contracts see of a space, a pass and a lease, and when a step may be made.
-use Rattle.std.specs.Prelude.{◌≡◌, ℕ, ◌+◌, ◌<◌, ◌≤◌, List, ◌++◌, length, take, Option, None, Some, slice_index}
+use Rattle.std.specs.Prelude.{◌≡◌, ℕ, ◌+◌, ◌<◌, ◌≤◌, List, [], ◌++◌, length, take, Option, None, Some, slice_index}
 use mathlib.Core.Option.{some}
 use lib.ListN.{get_elem?}
 use Rattle.atomic_table.specs.Seated.{TableId}
@@ -9,7 +9,9 @@ use Rattle.pt_view.specs.declared.view.View.{View}
 use Rattle.pt_view.specs.declared.view.Node.{Node}
 use Rattle.pt_view.specs.declared.view.Piece.{Piece}
 use Rattle.pt_view.specs.declared.view.Prepared.{Prepared}
+use Rattle.pt_view.specs.Views.{Aside, Stays}
 use Rattle.pt_rule.specs.Holds.{Holds}
+use Rattle.pt_rule.specs.Meets.{IsWhole}
 use Rattle.pt_rule.specs.Tags.{first_or}
 use Rattle.pt_rule.specs.Kinds.{Kind, May, Tells, after, place_of, put, retrace}
 use Rattle.pt_rule.specs.WholeView.{prepared_frame}
@@ -94,3 +96,10 @@ pub record Shows (f : Layout) (n l : ℕ) (v : View) (o : Fields) : Type 0 where
 -- the view of the holder: the path is cut to its depth
 abbrev pub cut_to : (depth : ℕ) → View → View
 cut_to depth v = retrace (take depth v.path) v
+
+-- what every call leaves: the space that the lease is of, and that it is alone where its span is the whole space
+abbrev pub none_aside : Aside
+none_aside = record { blocks = []; positions = [] }
+
+abbrev pub StaysIn : Layout → (old new : Standing) → Type 0
+StaysIn f old new = Stays (λ (s : Standing). s.space) (λ (s : Standing). none_aside) (λ (s : Standing). IsWhole f s.view) old new

@@ -1,6 +1,7 @@
 //! Words that several holders change at once, and leases on ranges of their pages.
 #![tactic(auto)]
 
+mod holder;
 mod lease;
 mod opening;
 mod pass;

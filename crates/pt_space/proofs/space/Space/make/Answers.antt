@@ -1,12 +1,9 @@
-use Rattle.std.proofs.Common.{rules, ◌≡◌, ℕ, ◌*◌, ◌-◌, ◌%◌, ◌<◌, ◌^◌, [], ◌∷◌, List, refl, sym, ap, ◌∙◌, subst, arith}
-use Rattle.std.specs.Prelude.{None}
+use Rattle.std.proofs.Common.{rules, ◌≡◌, ℕ, ◌*◌, ◌-◌, ◌%◌, ◌<◌, ◌^◌, [], ◌∷◌, List, sym, ap, ◌∙◌, subst, arith}
 use Rattle.std.proofs.lemmas.Nat.{one_shl}
 use Rattle.pt_model.specs.Layout.{input_pages}
-use Rattle.pt_view.specs.declared.view.View.{View}
 use Rattle.pt_rule.specs.Lawful.{Lawful}
 use Rattle.pt_rule.specs.Opening.{IsNew, opening_view}
 use Rattle.pt_rule.proofs.Laws.{new_is_lawful}
-use Rattle.pt_space.specs.Standing.{Shows}
 use Rattle.pt_space.proofs.Opens.{opening_shows}
 use Rattle.pt_space.proofs.space.Space.make.Goals as goal
 
