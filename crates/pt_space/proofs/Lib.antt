@@ -5,6 +5,10 @@ pub mod Roots
 pub mod Enters
 pub mod Takes
 pub mod Purses
+pub mod Installs
+pub mod Writing
+pub mod Marks
+pub mod Parts
 pub mod Opens
 pub mod NewWords
 pub mod Stored

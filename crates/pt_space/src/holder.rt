@@ -7,6 +7,7 @@ ghost use Rattle.pt_model.specs.Tables.{IsPosition};
 ghost use Rattle.pt_model.specs.Words as words_are;
 ghost use Rattle.pt_view.specs.Views.{IsLawfulAtRest, Rests};
 ghost use Rattle.pt_view.specs.Calls.{IsEntryAt, MeetsEntry, Rooted, Went, left};
+ghost use Rattle.pt_view.specs.Calls.{InstallFinds, IsCleared, IsInstalled, IsWritten, MayClear, MayInstall, MayWrite};
 ghost use Rattle.pt_view.specs.Calls.{IsFreed, IsPlaced, IsPrepared, IsReleased, IsTaken, IsUnplaced};
 ghost use Rattle.pt_view.specs.Calls.{FillsSpace, FitsSpace, HasEveryFrame, HasFramesBelow};
 ghost use Rattle.pt_rule.specs.Kinds.{IsLowestIn};
@@ -14,11 +15,11 @@ ghost use Rattle.pt_rule.specs.Meets.{Always, IsWhole};
 ghost use Rattle.pt_space.specs.Standing.{StaysIn, none_aside};
 
 use crate::lease::Lease;
-use crate::step::{At, exchange, load, store};
-use crate::words::{entry_place, frame_named, held_word, next_in, placed_word};
+use crate::step::{At, exchange, load, store, store_piece};
+use crate::words::{entry_place, frame_address, frame_named, held_word, next_in, placed_word};
 use pt_format::Format;
 use pt_num::Span;
-use pt_view::Seen;
+use pt_view::{Seen, Won};
 use std::marker::Brand;
 
 impl<'a, F: Format> Lease<'a, F> {
@@ -88,6 +89,70 @@ impl<'a, F: Format> Lease<'a, F> {
     {
         self.depth -= 1;
         self.level += 1;
+    }
+
+    /// Links the prepared frame at an entry of the path's last table, where no other table is linked,
+    /// and goes into the table that is linked there.
+    pub fn install(&mut self, number: u32) -> Won
+        requires { MayInstall F.layout self.old.view number }
+        ensures stays { StaysIn F.layout self.old self.new }
+        ensures installed { IsInstalled F.layout Always number self.old.view result self.new.view }
+        ensures found { InstallFinds F.layout (IsWhole F.layout self.old.view) number self.old.view result }
+    {
+        let depth = self.depth;
+        let level = self.level;
+        let (parent, place) = self.entry(number);
+        let Some(frame) = self.prepared else {
+            unreachable!()
+        };
+        let at = At {
+            depth,
+            frame: parent,
+            number,
+        };
+        let word = F::table_word(level, frame_address::<F>(frame));
+        let found = exchange::<F, Brand>(self.space, &mut self.seat, at, place, 0, word);
+        if found != 0 {
+            self.path[depth as usize] = frame_named::<F>(F::address_of(level, found));
+            self.depth = depth + 1;
+            self.level = level - 1;
+            return Won::Met;
+        }
+        self.path[depth as usize] = frame;
+        self.depth = depth + 1;
+        self.level = level - 1;
+        self.prepared = None;
+        Won::Yes
+    }
+
+    /// Writes a word of a block into an entry of the path's last table.
+    pub fn write(&mut self, number: u32, word: u64)
+        requires { MayWrite F.layout self.old.view number word }
+        ensures stays { StaysIn F.layout self.old self.new }
+        ensures written { IsWritten F.layout Always number word self.old.view self.new.view }
+    {
+        let (frame, place) = self.entry(number);
+        let at = At {
+            depth: self.depth,
+            frame,
+            number,
+        };
+        store_piece::<F, Brand>(self.space, &mut self.seat, at, place, word);
+    }
+
+    /// Clears an entry of the path's last table, at which the word of an own block stands.
+    pub fn clear(&mut self, number: u32)
+        requires { MayClear F.layout self.old.view number }
+        ensures stays { StaysIn F.layout self.old self.new }
+        ensures cleared { IsCleared F.layout Always number self.old.view self.new.view }
+    {
+        let (frame, place) = self.entry(number);
+        let at = At {
+            depth: self.depth,
+            frame,
+            number,
+        };
+        store_piece::<F, Brand>(self.space, &mut self.seat, at, place, 0);
     }
 
     /// Tries to take a frame, which is then the first of the purse. False only where it wasn't free.
