@@ -7,6 +7,7 @@ pub mod Takes
 pub mod Purses
 pub mod Installs
 pub mod Writing
+pub mod Unlinks
 pub mod Marks
 pub mod Parts
 pub mod Opens

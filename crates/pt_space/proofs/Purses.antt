@@ -37,7 +37,7 @@ follows_first frame end rest = ap (λ (b : Bool). if b then first_or end rest el
 same_first : (x y : ℕ) (xs ys : List ℕ) → x ∷ xs ≡ y ∷ ys → x ≡ y
 same_first x y xs ys e = let q : x ≡ y = cc in q
 
-same_rest : (x y : ℕ) (xs ys : List ℕ) → x ∷ xs ≡ y ∷ ys → xs ≡ ys
+pub same_rest : (x y : ℕ) (xs ys : List ℕ) → x ∷ xs ≡ y ∷ ys → xs ≡ ys
 same_rest x y xs ys e = let q : xs ≡ ys = cc in q
 
 module _ {f : Layout} (good : IsLayout f) (differ : WordsDiffer f) (agree : StepsAgree f) {n l : ℕ} {v : View} {o : Fields} (s : Shows f n l v o) where

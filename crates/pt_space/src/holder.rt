@@ -7,7 +7,7 @@ ghost use Rattle.pt_model.specs.Tables.{IsPosition};
 ghost use Rattle.pt_model.specs.Words as words_are;
 ghost use Rattle.pt_view.specs.Views.{IsLawfulAtRest, Rests};
 ghost use Rattle.pt_view.specs.Calls.{IsEntryAt, MeetsEntry, Rooted, Went, left};
-ghost use Rattle.pt_view.specs.Calls.{InstallFinds, IsCleared, IsInstalled, IsWritten, MayClear, MayInstall, MayWrite};
+ghost use Rattle.pt_view.specs.Calls.{InstallFinds, IsCleared, IsInstalled, IsUnlinked, IsWritten, MayClear, MayInstall, MayUnlink, MayWrite, UnlinkFinds};
 ghost use Rattle.pt_view.specs.Calls.{IsFreed, IsPlaced, IsPrepared, IsReleased, IsTaken, IsUnplaced};
 ghost use Rattle.pt_view.specs.Calls.{FillsSpace, FitsSpace, HasEveryFrame, HasFramesBelow};
 ghost use Rattle.pt_rule.specs.Kinds.{IsLowestIn};
@@ -15,7 +15,7 @@ ghost use Rattle.pt_rule.specs.Meets.{Always, IsWhole};
 ghost use Rattle.pt_space.specs.Standing.{StaysIn, none_aside};
 
 use crate::lease::Lease;
-use crate::step::{At, exchange, load, store, store_piece};
+use crate::step::{At, exchange, load, store, store_piece, store_zero};
 use crate::words::{entry_place, frame_address, frame_named, held_word, next_in, placed_word};
 use pt_format::Format;
 use pt_num::Span;
@@ -153,6 +153,34 @@ impl<'a, F: Format> Lease<'a, F> {
             number,
         };
         store_piece::<F, Brand>(self.space, &mut self.seat, at, place, 0);
+    }
+
+    /// Unlinks the table at an entry of the path's last table: its frame is then the first of the purse.
+    pub fn unlink(&mut self, number: u32)
+        requires { MayUnlink F.layout self.old.view number }
+        ensures stays { StaysIn F.layout self.old self.new }
+        ensures unlinked { IsUnlinked F.layout Always number self.old.view self.new.view }
+        ensures found { UnlinkFinds F.layout (IsWhole F.layout self.old.view) number self.old.view }
+    {
+        let depth = self.depth;
+        let (frame, place) = self.entry(number);
+        let at = At {
+            depth,
+            frame,
+            number,
+        };
+        let word = load::<F, Brand>(self.space, &mut self.seat, at, place);
+        let child = frame_named::<F>(F::address_of(self.level, word));
+        store_zero::<F, Brand>(self.space, &mut self.seat, at, place);
+        let own = At {
+            depth,
+            frame: child,
+            number: 0,
+        };
+        let tag = held_word(self.head);
+        store::<F, Brand>(self.space, &mut self.seat, own, 1 + child as usize, tag);
+        self.head = Some(child);
+        self.held += 1;
     }
 
     /// Tries to take a frame, which is then the first of the purse. False only where it wasn't free.

@@ -85,6 +85,21 @@ pub(crate) fn store<F: Format, J: Step>(
     space.table.shared.store::<Stores<F, J>>(seat, word, new);
 }
 
+/// A store of zero to a word.
+pub(crate) fn store_zero<F: Format, J: Step>(
+    space: &Space<F>,
+    seat: &mut Seat<(), View>,
+    at: At,
+    word: usize,
+)
+    requires seat { seat.old.table_id ≡ space.now.table }
+    requires may { MayStep F.layout space.now.frames space.now.levels J.kind J.path seat.old.me.0 word (λ _. 0) }
+    ensures seat { (seat.new.table_id ≡ seat.old.table_id) × (seat.new.id ≡ seat.old.id) × (seat.new.me.1 ≡ seat.old.me.1) }
+    ensures stepped { (found : ℕ) × Stepped F.layout space.now.frames space.now.levels J.kind (retrace J.path seat.old.me.0) found seat.new.me.0 }
+{
+    store::<F, J>(space, seat, at, word, 0);
+}
+
 /// An exchange of a word, from `old` to `new`. Answers the word as it was. It is tried once.
 pub(crate) fn exchange<F: Format, J: Step>(
     space: &Space<F>,
