@@ -1,8 +1,7 @@
 -- A lease links its prepared frame at an entry.
-use Rattle.std.proofs.Common.{◌≡◌, ◌≢◌, ℕ, ◌+◌, ◌-◌, ◌<◌, List, length, ap, sym, ◌∙◌, subst, arith}
-use Rattle.std.specs.Prelude.{Option, None, Some, slice_set, ◌==◌, if◌then◌else◌}
+use Rattle.std.proofs.Common.{◌≡◌, ◌≢◌, ℕ, ◌+◌, ◌-◌, ◌<◌, length, ap, sym, ◌∙◌, subst, arith}
+use Rattle.std.specs.Prelude.{None, Some, slice_set, ◌==◌, if◌then◌else◌}
 use prog.Atomic.{either}
-use Rattle.pt_model.specs.declared.position.Position.{Position}
 use Rattle.pt_model.specs.Layout.{Layout}
 use Rattle.pt_model.specs.Tables.{child_at}
 use Rattle.pt_model.specs.Words.{frame_address, frame_limit, frame_named}
@@ -10,11 +9,8 @@ use Rattle.pt_format.specs.Words.{IsPointer, IsTableLevel}
 use Rattle.pt_format.specs.Laws.{IsLayout, WordsDiffer}
 use Rattle.pt_format.specs.Manual.{StepsAgree}
 use Rattle.pt_view.specs.declared.view.View.{View}
-use Rattle.pt_view.specs.declared.view.Node.{Node}
-use Rattle.pt_view.specs.declared.view.Prepared.{Prepared}
-use Rattle.pt_view.specs.declared.holder.Won.{Won}
 use Rattle.pt_view.specs.declared.holder.Won.TheVariants.{Yes, Met}
-use Rattle.pt_view.specs.Calls.{InstallFinds, IsEntryAt, IsInstalled, MayInstall, lowest}
+use Rattle.pt_view.specs.Calls.{InstallFinds, IsInstalled, MayInstall, lowest}
 use Rattle.pt_rule.specs.Kinds.{IsLowestIn, frame_of, install, level_at, pointer_to, put}
 use Rattle.pt_rule.specs.WholeView.{prepared_frame}
 use Rattle.pt_rule.specs.Meets.{Always, GoesInto, Installs, IsWhole}

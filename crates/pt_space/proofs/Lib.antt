@@ -8,6 +8,7 @@ pub mod Purses
 pub mod Installs
 pub mod Writing
 pub mod Unlinks
+pub mod Looks
 pub mod Marks
 pub mod Parts
 pub mod Opens

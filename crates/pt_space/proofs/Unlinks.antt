@@ -1,12 +1,12 @@
 -- A lease unlinks a table: it loads the entry, stores zero there, and puts the child's frame into its purse.
-use Rattle.std.proofs.Common.{◌≡◌, ◌⊎◌, ℕ, ◌+◌, ◌<◌, ◌≤◌, ◌^◌, List, ◌∷◌, length, ap, sym, ◌∙◌, subst, arith, ⊎_elim}
+use Rattle.std.proofs.Common.{◌≡◌, ℕ, ◌+◌, ◌<◌, ◌≤◌, ◌^◌, List, ◌∷◌, length, ap, sym, ◌∙◌, subst, arith, ⊎_elim}
 use Rattle.std.specs.Prelude.{Option, None, Some, IsTrue}
 use Rattle.std.proofs.lemmas.Bool.{false≢true}
 use Rattle.pt_model.specs.declared.position.Position.{Position}
 use Rattle.pt_model.specs.Layout.{Layout}
 use Rattle.pt_model.specs.Sets.{IsAmong}
 use Rattle.pt_model.specs.Tables.{child_at, is_spine}
-use Rattle.pt_model.specs.Words.{frame_address, frame_named, word_count}
+use Rattle.pt_model.specs.Words.{frame_address, frame_named}
 use Rattle.pt_format.specs.Words.{IsPointer}
 use Rattle.pt_format.specs.Laws.{IsLayout, WordsDiffer}
 use Rattle.pt_format.specs.Manual.{StepsAgree}
@@ -17,7 +17,7 @@ use Rattle.pt_view.specs.Calls.{IsEntryAt, IsUnlinked, MayUnlink, UnlinkFinds}
 use Rattle.pt_view.proofs.Loads as loads
 use Rattle.pt_rule.specs.Tags.{first_or, held_word}
 use Rattle.pt_rule.specs.Kinds.{IsLowestIn, May, after, look, unlink, unplace}
-use Rattle.pt_rule.specs.Meets.{Always, Enters, IsWhole, Unlinks, in_child, out_of_child}
+use Rattle.pt_rule.specs.Meets.{Always, Enters, IsWhole, Unlinks, out_of_child}
 use Rattle.pt_rule.proofs.HolderFacts.{frame_back}
 use Rattle.pt_rule.proofs.Laws.{unlink_meets}
 use Rattle.pt_space.specs.Standing.{Fields, Shows, Stepped, cut_to}

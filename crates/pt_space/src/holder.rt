@@ -10,6 +10,7 @@ ghost use Rattle.pt_view.specs.Calls.{IsEntryAt, MeetsEntry, Rooted, Went, left}
 ghost use Rattle.pt_view.specs.Calls.{InstallFinds, IsCleared, IsInstalled, IsUnlinked, IsWritten, MayClear, MayInstall, MayUnlink, MayWrite, UnlinkFinds};
 ghost use Rattle.pt_view.specs.Calls.{IsFreed, IsPlaced, IsPrepared, IsReleased, IsTaken, IsUnplaced};
 ghost use Rattle.pt_view.specs.Calls.{FillsSpace, FitsSpace, HasEveryFrame, HasFramesBelow};
+ghost use Rattle.pt_view.specs.Runs.{LooksAtRun, MeetsRun};
 ghost use Rattle.pt_rule.specs.Kinds.{IsLowestIn};
 ghost use Rattle.pt_rule.specs.Meets.{Always, IsWhole};
 ghost use Rattle.pt_space.specs.Standing.{StaysIn, none_aside};
@@ -79,6 +80,26 @@ impl<'a, F: Format> Lease<'a, F> {
         self.depth = depth + 1;
         self.level = level - 1;
         Seen::Entered
+    }
+
+    /// Loads `count` entries of the path's last table, from number `first` on. True only where each was zero. Others
+    /// see the loads one by one.
+    pub fn empty_run(&mut self, first: u32, count: u32) -> bool
+        requires { MeetsRun F.layout self.old.view first count }
+        ensures stays { StaysIn F.layout self.old self.new }
+        ensures looks { LooksAtRun F.layout Always first count self.old.view result self.new.view }
+    {
+        for i in 0..count {
+            match self.enter(first + i) {
+                Seen::Empty => {}
+                Seen::Leaf(_) => return false,
+                Seen::Entered => {
+                    self.leave();
+                    return false;
+                }
+            }
+        }
+        true
     }
 
     /// Leaves the path's last table. Makes no step.

@@ -1,8 +1,8 @@
-use Rattle.std.proofs.Common.{◌≡◌, ◌<◌, ◌+◌, ◌-◌, ℕ, refl, sym, ap, ◌∙◌, subst, arith, length-set}
+use Rattle.std.proofs.Common.{◌≡◌, ◌<◌, ◌+◌, sym, ap, ◌∙◌, subst, arith, length-set}
 use Rattle.std.specs.Prelude.{◌==◌}
 use prog.Atomic.{either}
 use Rattle.pt_model.specs.Words.{entry_place, frame_named, word_count}
-use Rattle.pt_format.specs.Words.{IsPointer, IsTableAddress}
+use Rattle.pt_format.specs.Words.{IsTableAddress}
 use Rattle.pt_view.specs.declared.holder.Won.TheVariants.{Yes, Met}
 use Rattle.pt_view.specs.Calls.{InstallFinds, IsInstalled, MayInstall}
 use Rattle.pt_rule.specs.Kinds.{IsLowestIn}

@@ -1,12 +1,11 @@
-use Rattle.std.proofs.Common.{◌≡◌, ◌<◌, ◌+◌, ◌≤◌, ◌^◌, ℕ, refl, sym, ap, ◌∙◌, subst, arith}
+use Rattle.std.proofs.Common.{◌≡◌, ◌<◌, ◌+◌, refl, sym, ap, ◌∙◌, subst, arith}
 use Rattle.pt_model.specs.Words.{entry_place, frame_named, word_count}
-use Rattle.pt_format.specs.Words.{IsPointer, IsTableAddress}
+use Rattle.pt_format.specs.Words.{IsTableAddress}
 use Rattle.pt_view.specs.Calls.{IsUnlinked, MayUnlink, UnlinkFinds}
 use Rattle.pt_rule.specs.Kinds.{IsLowestIn}
 use Rattle.pt_rule.specs.Meets.{Always, IsWhole}
 use Rattle.pt_space.specs.Standing.{Standing, cut_to}
 use Rattle.pt_space.proofs.Showing.{may_next, may_step}
-use Rattle.pt_space.proofs.Nodes as nodes
 use Rattle.pt_space.proofs.Unlinks as unlinks
 use Rattle.pt_space.proofs.lease.Lease.unlink.Given.{Over}
 use Rattle.pt_space.proofs.lease.Lease.unlink.Goals as goal

@@ -1,4 +1,4 @@
-use Rattle.std.proofs.Common.{◌≡◌, ◌<◌, refl, sym, ◌∙◌, subst}
+use Rattle.std.proofs.Common.{◌≡◌, ◌<◌, sym, ◌∙◌, subst}
 use Rattle.pt_model.specs.Words.{entry_place, word_count}
 use Rattle.pt_view.specs.Calls.{IsWritten, MayWrite}
 use Rattle.pt_rule.specs.Kinds.{IsLowestIn}
