@@ -1,13 +1,12 @@
 -- A lease looks at a run of entries.
 use Rattle.std.proofs.Common.{◌≡◌, inl, inr, ℕ, ◌+◌, ◌<◌, ◌≤◌, List, ◌∷◌, [], refl, ap, sym, ◌∙◌, subst, arith, length, length-append}
-use Rattle.std.specs.Prelude.{Some, IsTrue, ◌&&◌, nat_lt, true, false}
+use Rattle.std.specs.Prelude.{IsTrue, ◌&&◌, nat_lt, true, false}
 use Rattle.std.proofs.lemmas.Bool.{cases_lt, false≢true}
 use Rattle.pt_model.specs.declared.position.Position.{Position}
 use Rattle.pt_model.specs.Layout.{Layout}
 use Rattle.pt_model.specs.Sets.{IsAmong}
 use Rattle.pt_model.specs.Tables.{child_at, starting_top}
 use Rattle.pt_view.specs.declared.view.View.{View}
-use Rattle.pt_view.specs.declared.view.Node.{Node}
 use Rattle.pt_view.specs.declared.holder.Seen.TheVariants.{Empty, Leaf, Entered}
 use Rattle.pt_view.specs.Calls.{IsEntryAt, IsVacant, MeetsEntry, Went, all_but_last, entry_end, entry_first, left, lowest, pieces_at}
 use Rattle.pt_view.specs.Loads.{ByLoads}
@@ -15,13 +14,7 @@ use Rattle.pt_view.specs.Runs.{LooksAtRun, MeetsRun}
 use Rattle.pt_view.proofs.Loads as loads
 use Rattle.pt_view.proofs.Paths.{front_snoc}
 use Rattle.pt_rule.specs.Meets.{Always, IsWhole}
-
--- the path has one last table
-same_place : {f : Layout} {v : View} {p q : Position} {i j : ℕ} → IsEntryAt f v p i → IsEntryAt f v q j → p ≡ q
-same_place a b =
-    let both : Some a.node ≡ Some b.node = sym a.is_lowest ∙ b.is_lowest in
-    let node : a.node ≡ b.node = cc in
-    sym a.at ∙ ap (λ (x : Node). x.position) node ∙ b.at
+use Rattle.pt_space.proofs.Nodes.{same_place}
 
 -- what loads found to be vacant was so before
 vacant_before : {f : Layout} {v w : View} {p : Position} {number : ℕ} → ByLoads Always v w → IsVacant f w p number → IsVacant f v p number

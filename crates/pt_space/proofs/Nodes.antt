@@ -22,6 +22,13 @@ use Rattle.pt_rule.specs.WholeView.{prepared_frame}
 use Rattle.pt_space.specs.Standing.{Fields, Shows, cut_to}
 use Rattle.pt_space.proofs.Showing.{take_at, take_length, whole_path}
 
+-- the path has one last table
+pub same_place : {f : Layout} {v : View} {p q : Position} {i j : ℕ} → IsEntryAt f v p i → IsEntryAt f v q j → p ≡ q
+same_place a b =
+    let both : Some a.node ≡ Some b.node = sym a.is_lowest ∙ b.is_lowest in
+    let node : a.node ≡ b.node = cc in
+    sym a.at ∙ ap (λ (x : Node). x.position) node ∙ b.at
+
 -- the lowest node is the last
 lowest_at : (xs : List Node) (x : Node) → lowest xs ≡ Some x → (i : ℕ) × (length xs ≡ suc i) × (get_elem? xs i ≡ some x)
 lowest_at [] x e = absurd (let w : ⊥ = cc in w)

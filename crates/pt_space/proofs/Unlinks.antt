@@ -11,9 +11,8 @@ use Rattle.pt_format.specs.Words.{IsPointer}
 use Rattle.pt_format.specs.Laws.{IsLayout, WordsDiffer}
 use Rattle.pt_format.specs.Manual.{StepsAgree}
 use Rattle.pt_view.specs.declared.view.View.{View}
-use Rattle.pt_view.specs.declared.view.Node.{Node}
 use Rattle.pt_view.specs.declared.holder.Seen.TheVariants.{Entered}
-use Rattle.pt_view.specs.Calls.{IsEntryAt, IsUnlinked, MayUnlink, UnlinkFinds}
+use Rattle.pt_view.specs.Calls.{IsUnlinked, MayUnlink, UnlinkFinds}
 use Rattle.pt_view.proofs.Loads as loads
 use Rattle.pt_rule.specs.Tags.{first_or, held_word}
 use Rattle.pt_rule.specs.Kinds.{IsLowestIn, May, after, look, unlink, unplace}
@@ -25,13 +24,6 @@ use Rattle.pt_space.proofs.Showing.{cut_is, says, shows_purse}
 use Rattle.pt_space.proofs.Nodes as nodes
 use Rattle.pt_space.proofs.Purses.{same_rest}
 use Rattle.pt_space.proofs.Takes.{frames_few}
-
--- the path has one last table
-same_place : {f : Layout} {v : View} {p q : Position} {i j : ℕ} → IsEntryAt f v p i → IsEntryAt f v q j → p ≡ q
-same_place a b =
-    let both : Some a.node ≡ Some b.node = sym a.is_lowest ∙ b.is_lowest in
-    let node : a.node ≡ b.node = cc in
-    sym a.at ∙ ap (λ (x : Node). x.position) node ∙ b.at
 
 module _ {f : Layout} (good : IsLayout f) (differ : WordsDiffer f) (agree : StepsAgree f) {n l : ℕ} {v : View} {o : Fields} (s : Shows f n l v o)
     {number frame : ℕ} (may : MayUnlink f (cut_to o.depth v) number) (low : IsLowestIn (cut_to o.depth v) frame) where
@@ -57,7 +49,7 @@ module _ {f : Layout} (good : IsLayout f) (differ : WordsDiffer f) (agree : Step
         let e : Enters f may.position number cut found w = says s good differ agree may_look t may.position may.entry in
         let read : IsPointer f may.position.level found (frame_address f meets.child) = meets.pointer may.position may.entry in
         let looked = loads.found f Always (IsWhole f cut) cut may.position number Entered w ((e.pointer (frame_address f meets.child) read).0.looked may.position may.entry) in
-        ⊎_elim (λ (there : IsAmong cut.tables (child_at f may.position number)). subst (λ (q : Position). IsAmong cut.tables (child_at f q number)) (same_place may.entry entry) there)
+        ⊎_elim (λ (there : IsAmong cut.tables (child_at f may.position number)). subst (λ (q : Position). IsAmong cut.tables (child_at f q number)) (nodes.same_place may.entry entry) there)
         (λ (spine : IsTrue (is_spine cut.levels (child_at f may.position number))). absurd (false≢true (sym may.bare.off_spine ∙ spine))) (looked.owned alone)
 
     -- The entry is zero, and the child is prepared.
