@@ -1,10 +1,11 @@
--- Facts for other crates: the laws, and what the rule says of tags, of tables added to a book, of pieces, and of the growth of
+-- Facts for other crates: the laws, and what the rule says of tags, of tables added to a book, of pieces, of holders, and of the growth of
 -- one owner's words.
 pub mod Laws
 pub mod TagFacts
 pub mod TablesAdded
 pub mod PieceFacts
 pub mod LoneGrowth
+pub mod HolderFacts
 -- Numbers, lists and positions: totals over views, a few frames, spans, positions and the pieces over them.
 mod TotalsKept
 mod FewFrames

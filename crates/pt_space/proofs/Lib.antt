@@ -1,0 +1,16 @@
+pub mod Stepping
+pub mod Showing
+pub mod Nodes
+pub mod Roots
+pub mod Enters
+pub mod Takes
+pub mod Purses
+pub mod Installs
+pub mod Writing
+pub mod Unlinks
+pub mod Looks
+pub mod Marks
+pub mod Parts
+pub mod Opens
+pub mod NewWords
+pub mod Stored
