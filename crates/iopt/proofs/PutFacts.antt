@@ -1,6 +1,6 @@
 -- What is put, as the words ask.
 use Rattle.std.proofs.Common.{◌≡◌, ℕ, ◌^◌, ◌<◌, List, [], ◌∷◌, length, Option, None, Some, refl, ap, sym, subst, ◌∙◌, inl, inr, arith}
-use Rattle.std.specs.Prelude.{codes, get_or, false}
+use Rattle.std.specs.Prelude.{codes, get_or, false, IfOk, Result, Ok, Err}
 use Rattle.pt_stream.specs.Bytes.{ConsumesAll}
 use Rattle.pt_stream.proofs.Spelling.{digits_injective}
 use Rattle.pt_model.specs.declared.reply.Reply.{Reply}
@@ -16,13 +16,20 @@ use Rattle.iopt.specs.Runs.{IsMadeText, IsRefusedFor, ScriptsAreNotRefused}
 use Rattle.iopt.specs.Top.{CanRun, IsDoneWithMemory, PutAsAsked, script_status}
 
 -- the summary of a made script's replies over one owner is that of the run in which no map lacks frames
-pub made_text : (number : ℕ) (s : Script) (replies : List Reply) (text : List ℕ) → MadeLackNoFrames → IsMade number s → IsRunOfOne s replies →
+made_text : (number : ℕ) (s : Script) (replies : List Reply) (text : List ℕ) → MadeLackNoFrames → IsMade number s → IsRunOfOne s replies →
     text ≡ summary number s replies → IsMadeText number text
 made_text number s replies text law made ran e = record {
   script = s;
   is_made = made;
   text_is = e ∙ ap (summary number s) (ran.are ∙ sym (law number s made).one_text.same);
 }
+
+pub made_summary : {T E : Type 0} → (number : ℕ) (s : Script) (replies told : List Reply) (items : T → List ℕ) (result : Result T E) →
+    MadeLackNoFrames → IsMade number s → IsRunOfOne s replies → told ≡ replies →
+    IfOk result (λ r. items r ≡ summary number s told) → IfOk result (λ r. IsMadeText number (items r))
+made_summary number s replies told items (Err e) law made ran same h = tt
+made_summary number s replies told items (Ok r) law made ran same h =
+    made_text number s replies (items r) law made ran (h ∙ ap (summary number s) same)
 
 -- a run of the text of a script ends done, but for want of memory
 pub script_ends : ScriptsAreNotRefused → (left left' : Option (List ℕ)) (text : List ℕ) (e : ScriptError) → CanRun left → ConsumesAll left left' text →

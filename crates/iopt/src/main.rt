@@ -1,10 +1,11 @@
 //! The program `iopt`: it reads a script of commands on page tables from standard input, runs it, and
-//! writes the replies to standard output.
+//! writes the replies to standard output; or it makes a script of its own from a number, and writes a summary.
 //!
-//! It stands on the script language, on the devices, and on the tables of one owner. The top call `run`
-//! does all that the program does, over any source and sink; it promises that at `Done` the whole input
-//! was read, that it is the text of a script, and that the bytes appended are the text of that script's
-//! run. `main` makes the real words, input and output, calls it, and prints the line of its status.
+//! It stands on the script language, on the devices, on the run of a script and on made scripts. The top call
+//! `run` does all that the program does, over any source and sink; it promises that at `Done` the whole input
+//! was read, that it is the text of a script, and that the bytes appended are the text of that script's run; or,
+//! where the words ask for a made script, that they are the summary of its run. `main` makes the real words,
+//! input and output, calls it, and prints the line of its status.
 #![tactic(auto)]
 
 ghost use Rattle.std.specs.Prelude.{◌≡◌, IfErr};
@@ -16,6 +17,8 @@ ghost use Rattle.iopt.specs.Top.{IsUnread, IsUnreadBy};
 mod book_tests;
 #[cfg(test)]
 mod dump_tests;
+#[cfg(test)]
+mod fork_tests;
 mod running;
 #[cfg(test)]
 mod script_tests;

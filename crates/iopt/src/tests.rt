@@ -178,14 +178,14 @@ const REFUSED: [(&[u8], u32, Reason); 10] = [
         Reason::Limit,
     ),
     (
-        b"format vtdss3\nframes 8\nhold 0\nlookup 0x0\nfork 0x1000\nwith\nend\nclose\nend\n",
+        b"format vtdss3\nframes 8\nhold 0\nfork 0x1000\nrelease\nwith\nend\nclose\nend\n",
         5,
-        Reason::Unbuilt,
+        Reason::Word,
     ),
     (
-        b"format vtdss3\nframes 8\nhold 0\nlookup 0x0\nclose\ncensus\nend\n",
-        6,
-        Reason::Unbuilt,
+        b"format vtdss3\nframes 8\nhold 0\nclose\nlookup 0x0\nend\n",
+        5,
+        Reason::Word,
     ),
     (
         b"format vtdss3\nframes 8\nhold 0\ndump\ndumb\nclose\nend\n",
@@ -231,7 +231,6 @@ fn each_reason_has_its_name(rt: HostRuntime) -> Result<(), Fail> {
         (Reason::Argument, "refused at line 1048576: argument"),
         (Reason::Limit, "refused at line 1048576: limit"),
         (Reason::After, "refused at line 1048576: after"),
-        (Reason::Unbuilt, "refused at line 1048576: unbuilt"),
     ];
     for (reason, line) in cases {
         let status = Status::Refused {
