@@ -23,7 +23,7 @@ use Rattle.pt_rule.specs.Kinds.{retrace}
 use Rattle.pt_rule.proofs.TotalsKept.{total_at, at_inside}
 use Rattle.pt_model.proofs.Positions.{bit_le, bit_true}
 use Rattle.pt_rule.proofs.FewFrames.{distinct_few}
-use Rattle.pt_rule.proofs.TreeFacts.{is_position}
+use Rattle.pt_rule.proofs.TreeFacts.{is_position, prepared_tag}
 use Rattle.pt_rule.proofs.TagFacts.{held_unplaced}
 use Rattle.pt_rule.proofs.SpansFacts.{page_within}
 use Rattle.pt_rule.proofs.CountKept.{counted}
@@ -98,6 +98,7 @@ module _ (f : Layout) (good : IsLayout f) (n l : ℕ) (words : List ℕ) (views 
         (λ le. let a : times x v.purse ≤ total (holds x) views = total_at (holds x) views id v at in let b = r.frames.none_held x le in omega arith)
         (λ ne. let a : times x v.purse ≤ total (holds x) views = total_at (holds x) views id v at in let b = r.frames.held x (omega arith) in let c = bit_le (is_held (tag words x)) in omega arith);
     prepared_within = prepared_in;
+    prepared_legal = λ x e. (prepared_tag f good n words views r.frames id v x at e).0;
     few = few_held;
     path_within = nodes_in;
     counted = λ whole. counted f good n l words views id v r at whole;

@@ -5,6 +5,7 @@ use lib.ListN.{get_elem?}
 use Rattle.pt_model.specs.declared.block.Block.{Block}
 use Rattle.pt_model.specs.Layout.{Layout, input_pages}
 use Rattle.pt_model.specs.Book.{IsLawful}
+use Rattle.pt_model.specs.Tables.{IsPosition}
 use Rattle.pt_model.specs.Words.{frame_limit}
 use Rattle.pt_view.specs.declared.view.View.{View}
 use Rattle.pt_view.specs.declared.view.Node.{Node}
@@ -27,6 +28,7 @@ pub record Holds (f : Layout) (n l : ℕ) (v : View) : Type 0 where
   pub purse_within : (x : ℕ) → IsIn v.purse x → x < n
   pub once : (x : ℕ) → times x v.purse ≤ 1
   pub prepared_within : (x : Prepared) → v.prepared ≡ Some x → x.frame < n
+  pub prepared_legal : (x : Prepared) → v.prepared ≡ Some x → IsPosition f x.position
   pub few : held_count v ≤ n
   pub path_within : (i : ℕ) (x : Node) → get_elem? v.path i ≡ some x → (x.frame < n) × (x.position.level < f.levels)
   pub counted : v.count ≡ input_pages f → (linked_of v + held_count v ≤ n) × (HasEveryFrame v → linked_of v + held_count v ≡ n)
