@@ -1,8 +1,8 @@
-//! The program against the slow book of the definitions.
+//! The program against the slow book of the definitions: each command, forks too, and what is asked behind `close`.
 
-ghost use Rattle.std.specs.Prelude.{◌<◌, IfOk, IsTrue};
+ghost use Rattle.std.specs.Prelude.{◌<◌, All, IfOk, IfSome, IsTrue};
 ghost use Rattle.pt_book.specs.Spaces.{IsStart};
-ghost use Rattle.pt_reply.specs.Telling.{NamesLegalBlock, has_small_blocks};
+ghost use Rattle.pt_reply.specs.Telling.{CutsLegalBlock, IsListable, IsTellable, NamesLegalBlock, has_small_blocks};
 
 use crate::status::Status;
 use crate::top::run;
@@ -13,8 +13,11 @@ use fmt_vmsa::Vmsa;
 use fmt_vtdss::VtdSs;
 use fmt_x86::X86;
 use pt_book::ListBook;
-use pt_format::Format;
-use pt_model::{Answer, LookupAnswer, MapAnswer, Name, Prot, Reply, UnmapAnswer, What};
+use pt_format::{Format, page_under};
+use pt_model::{
+    Answer, Ask, AskWhat, Dump, ForkAnswer, LookupAnswer, MapAnswer, Name, Prot, Reply,
+    UnmapAnswer, What,
+};
 use pt_reply::push_reply;
 use pt_script::{Script, parse};
 use pt_stream::{MemorySink, SureSource, push_dec, push_hex};
@@ -222,25 +225,142 @@ fn unmapped<F: Format>(book: &mut ListBook<F>, va: u64, len: u64) -> Result<Unma
     Ok(UnmapAnswer::Unmapped { pages })
 }
 
-/// The text of the book's answers to a script's commands.
+/// What a book lists of its span.
+fn dumped<F: Format>(alloc: Global, book: &ListBook<F>) -> Result<Dump, Fail>
+    requires small { IsTrue (has_small_blocks F.layout) }
+    ensures { IfOk result (λ dump. All (IsListable F.layout) dump.lowest) }
+{
+    Ok(book.dump(alloc)?)
+}
+
+/// A fork that is open: it was refused, or the span from page `first` to before page `end` was cut at page `at`.
+#[derive(Clone, Copy)]
+enum Open {
+    Refused,
+    Cut { first: u64, at: u64, end: u64 },
+}
+
+/// Whether the commands here are answered: no open fork was refused.
+fn is_running(forks: &[Open]) -> bool {
+    !forks.iter().any(|fork| matches!(fork, Open::Refused))
+}
+
+/// Turns a book to the pages from `first` to before `end`.
+fn turn<F: Format>(book: &mut ListBook<F>, first: u64, end: u64) -> Result<(), Fail> {
+    if first > end || end > 1 << (F::INPUT - F::GRANULE) {
+        return Err(Fail::new("no such span"));
+    }
+    book.stand_in(first, end);
+    Ok(())
+}
+
+/// Opens a fork where the commands are answered. One that isn't refused turns the book to the pages before the cut.
+fn forked<F: Format>(
+    book: &mut ListBook<F>,
+    forks: &mut Vec<Open>,
+    at: u64,
+) -> Result<ForkAnswer, Fail>
+    requires small { IsTrue (has_small_blocks F.layout) }
+    ensures { IfOk result (CutsLegalBlock F.layout) }
+{
+    if let Some(refusal) = book.cut_refusal(at) {
+        forks.push(Open::Refused)?;
+        return Ok(refusal);
+    }
+    let span = book.span();
+    let at = page_under::<F>(at);
+    let first = span.first;
+    let end = first.wrapping_add(span.count);
+    turn(book, first, at)?;
+    forks.push(Open::Cut { first, at, end })?;
+    Ok(ForkAnswer::Forked)
+}
+
+/// Opens, parts or ends a fork that isn't answered: `with` turns the book to the pages from the cut on, and `end` to
+/// the whole span again.
+fn passed<F: Format>(
+    book: &mut ListBook<F>,
+    forks: &mut Vec<Open>,
+    what: What,
+) -> Result<(), Fail> {
+    match what {
+        What::Fork { .. } => forks.push(Open::Refused)?,
+        What::With => {
+            if let Some(Open::Cut { at, end, .. }) = forks.last().copied() {
+                turn(book, at, end)?;
+            }
+        }
+        What::End => {
+            if let Some(Open::Cut { first, end, .. }) = forks.pop() {
+                turn(book, first, end)?;
+            }
+        }
+        _ => {}
+    }
+    Ok(())
+}
+
+/// The book's answer to a command in a space of so many frames, where it has one.
+fn answered<F: Format>(
+    alloc: Global,
+    book: &mut ListBook<F>,
+    forks: &mut Vec<Open>,
+    frames: u32,
+    what: What,
+) -> Result<Option<Answer>, Fail>
+    requires small { IsTrue (has_small_blocks F.layout) }
+    ensures { IfOk result (λ answer. IfSome answer (IsTellable F.layout)) }
+{
+    if !is_running(forks) {
+        passed(book, forks, what)?;
+        return Ok(None);
+    }
+    Ok(Some(match what {
+        What::Map { va, pa, len, prot } => Answer::Map(mapped(book, frames, va, pa, len, prot)?),
+        What::Unmap { va, len } => Answer::Unmap(unmapped(book, va, len)?),
+        What::Lookup { va } => Answer::Lookup(looked_up(book, va)),
+        What::Dump => Answer::Dump(dumped(alloc, book)?),
+        What::Release => Answer::Release,
+        What::Fork { at } => Answer::Fork(forked(book, forks, at)?),
+        What::With | What::End => {
+            passed(book, forks, what)?;
+            return Ok(None);
+        }
+    }))
+}
+
+/// Appends what a book answers to what is asked of it.
+fn push_asked<F: Format>(text: &mut Vec<u8>, book: &ListBook<F>, asks: &[Ask]) -> Result<(), Fail> {
+    for ask in asks {
+        let answer = match ask.what {
+            AskWhat::Walk { va } => Answer::Walk(book.walk(va)),
+            AskWhat::Census => match book.census() {
+                Some(census) => Answer::Census(census),
+                None => return Err(Fail::new("pages past 64 bits")),
+            },
+        };
+        let line = ask.line;
+        push_reply::<F>(text, &Reply { line, answer })?;
+    }
+    Ok(())
+}
+
+/// The text of the book's answers to a script: to its commands, and to what is asked behind them.
 fn book_replies<F: Format>(alloc: Global, script: &Script) -> Result<Vec<u8>, Fail>
     requires start { IsStart F.layout script.now.levels }
     requires small { IsTrue (has_small_blocks F.layout) }
 {
     let mut book = ListBook::<F>::new(alloc, script.levels);
+    let mut forks = Vec::new(alloc);
     let mut text = Vec::new(alloc);
     for command in script.body.commands() {
-        let answer = match command.what {
-            What::Map { va, pa, len, prot } => {
-                Answer::Map(mapped(&mut book, script.frames, va, pa, len, prot)?)
-            }
-            What::Unmap { va, len } => Answer::Unmap(unmapped(&mut book, va, len)?),
-            What::Lookup { va } => Answer::Lookup(looked_up(&book, va)),
-            _ => continue,
-        };
+        let answer = answered(alloc, &mut book, &mut forks, script.frames, command.what)?;
         let line = command.line;
-        push_reply::<F>(&mut text, &Reply { line, answer })?;
+        if let Some(answer) = answer {
+            push_reply::<F>(&mut text, &Reply { line, answer })?;
+        }
     }
+    push_asked(&mut text, &book, script.tail.asks())?;
     Ok(text)
 }
 
@@ -262,7 +382,7 @@ fn replies_by_book(alloc: Global, script: &Script) -> Result<Vec<u8>, Fail> {
 }
 
 /// The most bytes of a test's replies.
-const ROOM: usize = 0x2_0000;
+const ROOM: usize = 0x4_0000;
 
 /// Whether the program puts what the book answers to a script.
 fn agree(alloc: Global, text: &[u8]) -> Result<bool, Fail> {
@@ -292,11 +412,12 @@ fn scaled(what: What, shift: u32) -> What
             len: len << shift,
         },
         What::Lookup { va } => What::Lookup { va: va << shift },
+        What::Fork { at } => What::Fork { at: at << shift },
         other => other,
     }
 }
 
-/// The lines of maps, unmaps and lookups of pages of 4 KiB, for pages that are `2^shift` times as large.
+/// The lines of commands on pages of 4 KiB, for pages that are `2^shift` times as large.
 pub(crate) fn scaled_lines(alloc: Global, lines: &[u8], shift: u32) -> Result<Vec<u8>, Fail>
     requires { shift < 64 }
 {
@@ -311,7 +432,16 @@ pub(crate) fn scaled_lines(alloc: Global, lines: &[u8], shift: u32) -> Result<Ve
     Ok(out)
 }
 
-/// Whether the program and the book agree on these lines, in so many frames of which half are held.
+/// What is asked behind `close` in each script, besides the census and the walk of the last page.
+const ASKS: &[u8] =
+    b"walk 0x0\nwalk 0x1234\nwalk 0x2fff\nwalk 0x8000\nwalk 0xffff\nwalk 0x10000\nwalk 0x1f000\n\
+    walk 0x1fffff\nwalk 0x200000\nwalk 0x2ff001\nwalk 0x300000\nwalk 0x3ff000\nwalk 0x400000\nwalk 0x600abc\n\
+    walk 0x800000\nwalk 0x1000000\nwalk 0x3ffff000\nwalk 0x40000000\nwalk 0x40200000\nwalk 0x7ffff000\n\
+    walk 0x80000000\nwalk 0xc0000000\nwalk 0x8000000000\nwalk 0x7fffffffffff\nwalk 0xffff800000000000\n\
+    walk 0xffffffffffffffff\ncensus\n";
+
+/// Whether the program and the book agree on these lines, in so many frames of which half are held, and on what is asked
+/// behind them.
 pub(crate) fn agree_in(
     alloc: Global,
     format: FormatCase,
@@ -326,7 +456,11 @@ pub(crate) fn agree_in(
     push_dec(&mut text, u64::from(frames / 2))?;
     text.push(b'\n')?;
     text.extend_from_slice(lines)?;
-    text.extend_from_slice(b"close\nend\n")?;
+    text.extend_from_slice(b"close\ncensus\nwalk ")?;
+    push_hex(&mut text, format.last)?;
+    text.push(b'\n')?;
+    text.extend_from_slice(ASKS)?;
+    text.extend_from_slice(b"end\n")?;
     agree(alloc, &text)
 }
 
@@ -405,7 +539,15 @@ fn mixed(line: u32) -> What {
     }
 }
 
-/// Appends the line of a map, an unmap or a lookup.
+/// Appends a line of one address.
+fn push_at(out: &mut Vec<u8>, word: &[u8], at: u64) -> Result<(), Fail> {
+    out.extend_from_slice(word)?;
+    push_hex(out, at)?;
+    out.push(b'\n')?;
+    Ok(())
+}
+
+/// Appends the line of a command.
 pub(crate) fn push_line(out: &mut Vec<u8>, what: What) -> Result<(), Fail> {
     match what {
         What::Map { va, pa, len, prot } => {
@@ -427,12 +569,12 @@ pub(crate) fn push_line(out: &mut Vec<u8>, what: What) -> Result<(), Fail> {
             push_hex(out, len)?;
             out.push(b'\n')?;
         }
-        What::Lookup { va } => {
-            out.extend_from_slice(b"lookup ")?;
-            push_hex(out, va)?;
-            out.push(b'\n')?;
-        }
-        _ => {}
+        What::Lookup { va } => push_at(out, b"lookup ", va)?,
+        What::Fork { at } => push_at(out, b"fork ", at)?,
+        What::Dump => out.extend_from_slice(b"dump\n")?,
+        What::Release => out.extend_from_slice(b"release\n")?,
+        What::With => out.extend_from_slice(b"with\n")?,
+        What::End => out.extend_from_slice(b"end\n")?,
     }
     Ok(())
 }

@@ -22,6 +22,8 @@ mod fork_tests;
 mod running;
 #[cfg(test)]
 mod script_tests;
+#[cfg(test)]
+mod span_tests;
 mod status;
 #[cfg(test)]
 mod tests;

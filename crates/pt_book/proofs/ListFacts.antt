@@ -1,7 +1,7 @@
 -- What a search finds, lists of legal blocks, and blocks in the order of first pages.
 use Rattle.std.proofs.Common.{◌≡◌, ℕ, suc, ◌+◌, ◌-◌, ◌^◌, ◌<◌, ◌≤◌, Bool, true, false, inl, inr, List, [], ◌∷◌, length, get_or, drop, Option, Some, refl, ap, sym, subst, ◌∙◌, arith, ◌⊎◌, Vec, Global}
-use Rattle.std.specs.Prelude.{nat_lt, filter, find, not, All, AllPairs, cond, IfOk, Result}
-use Rattle.std.proofs.lemmas.Bool.{cases_eq, cases_lt, le-ltb}
+use Rattle.std.specs.Prelude.{nat_le, nat_lt, filter, find, not, All, AllPairs, cond, IfOk, Result}
+use Rattle.std.proofs.lemmas.Bool.{and_from, cases_eq, cases_lt, le-leb, le-ltb}
 use Rattle.std.proofs.lemmas.List.Elements.{All-append, All-cons, All-filter}
 use Rattle.std.proofs.lemmas.List.{get_or-drop, get_or_default, length-drop}
 use Rattle.std.proofs.lemmas.List.Kept.{AllPairs-cons}
@@ -9,9 +9,9 @@ use Rattle.std.proofs.Math.Pow.{pow_mono}
 use Rattle.std.proofs.lemmas.Result.{IfOk-weaker}
 use Rattle.pt_model.specs.declared.block.Block.{Block}
 use Rattle.pt_model.specs.declared.block.Prot.{Prot}
-use Rattle.pt_model.specs.Layout.{Layout, IsLegal, IsLegalBlock, pages}
+use Rattle.pt_model.specs.Layout.{Layout, IsLegal, IsLegalBlock, end_of, pages}
 use Rattle.pt_model.specs.Tiling.{IsTiling}
-use Rattle.pt_model.specs.Book.{add_blocks}
+use Rattle.pt_model.specs.Book.{add_blocks, lies_in}
 
 -- a power below another has a smaller exponent
 pub small_power : (k m : ℕ) → 2 ^ k < 2 ^ m → k < m
@@ -31,6 +31,13 @@ found_is P p (x ∷ xs) b all e = elim (by_test (p x) x b (find p xs) e) [
   | inl here ↦ (subst P (sym here.1) (all 0 x (omega arith)), ap p here.1 ∙ here.0)
   | inr later ↦ found_is P p xs b (λ k d h. all (suc k) d (omega arith)) later
 ]
+
+-- all blocks that end by a page lie in the pages before it
+pub all_lie_in : (last : ℕ) (bs : List Block) → All (λ b. end_of b ≤ last) bs → filter (lies_in 0 last) bs ≡ bs
+all_lie_in last [] all = refl
+all_lie_in last (b ∷ bs) all =
+    let here : lies_in 0 last b ≡ true = and_from (nat_le 0 b.first) (nat_le (end_of b) last) (le-leb 0 b.first (omega arith)) (le-leb (end_of b) last (all 0 b (omega arith))) in
+    rw here (ap (λ (xs : List Block). b ∷ xs) (all_lie_in last bs (λ k d h. all (suc k) d (omega arith))))
 
 -- the blocks of two lists of legal blocks are legal
 pub all_added : (P : Block → Type 0) (bs new : List Block) → All P bs → All P new → All P (add_blocks bs new)

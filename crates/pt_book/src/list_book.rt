@@ -1,23 +1,30 @@
 //! The book of a space as a list of blocks.
 
-ghost use Rattle.std.specs.Prelude.{◌≡◌, ℕ, All, AllPairs, ◌+◌, ◌-◌, ◌*◌, ◌/◌, ◌%◌, ◌^◌, ◌<◌, ◌≤◌, None, IsTrue, IfOk, IfSome, OnOk, OnErr, filter, length, not, ◌&&◌, nat_lt, nat_le, option_map};
-ghost use Rattle.pt_model.specs.Layout.{IsLegalBlock, output_pages};
+ghost use Rattle.std.specs.Prelude.{◌≡◌, ℕ, All, AllPairs, ◌+◌, ◌-◌, ◌*◌, ◌/◌, ◌%◌, ◌^◌, ◌<◌, ◌≤◌, None, Some, IsTrue, IfOk, IfSome, OnOk, OnErr, filter, length, not, ◌&&◌, nat_lt, nat_le, option_map, if◌then◌else◌};
+ghost use Rattle.pt_model.specs.Layout.{IsLegalBlock, input_pages, output_pages};
 ghost use Rattle.pt_model.specs.Pages as pages;
 ghost use Rattle.pt_model.specs.Tiling.{tiling};
 ghost use Rattle.pt_model.specs.Book as book;
 ghost use Rattle.pt_model.specs.Book.{new_book, map_refusal, translation};
 ghost use Rattle.pt_model.specs.Unmap as unmap;
-ghost use Rattle.pt_model.specs.Unmap.{unmap_refusal, pages_gone};
-ghost use Rattle.pt_model.specs.Run.{refused_answer, refused_unmap};
-ghost use Rattle.pt_book.specs.Spaces.{CutsLegalBlock, IsStart, with_book};
+ghost use Rattle.pt_model.specs.Unmap.{unmap_refusal, pages_gone, pages_in};
+ghost use Rattle.pt_model.specs.Cuts.{cut_refusal, spanning};
+ghost use Rattle.pt_model.specs.Dumps.{blocks_inside, census_of, dumped};
+ghost use Rattle.pt_model.specs.Run.{refused_answer, refused_fork, refused_unmap, walk_answer};
+ghost use Rattle.pt_book.specs.Spaces.{CrossesLegalBlock, CutsLegalBlock, IsStart, IsStated, with_book};
 
-use crate::lists::{add_blocks, blocks_left, first_cut, first_met, pages_within, tiled};
+use crate::lists::{
+    add_blocks, blocks_left, blocks_within, first_across, first_cut, first_met, pages_within, tiled,
+};
 use crate::tables::{all_needed, is_in, is_spine, least_top, tables_after, tables_left};
 use pt_format::{Block, Format, Prot, byte_of, is_whole, page_of, page_under, range_of};
-use pt_model::{MapAnswer, Position, UnmapAnswer};
+use pt_model::{Census, Dump, ForkAnswer, Listed, MapAnswer, Position, UnmapAnswer};
 use pt_num::{Memory, Span};
 use std::alloc::Global;
 use std::marker::{Model, PhantomData};
+
+/// The most blocks that a dump lists.
+const DUMP_LIMIT: usize = 1000;
 
 /// The book of a space that is changed by calls, and the number of levels that the space starts with.
 #[derive(Drop)]
@@ -71,7 +78,7 @@ impl<F: Format> ListBook<F> {
             levels,
             top: levels - 1,
             first: 0,
-            count: 1 << (F::INPUT - F::GRANULE),
+            count: space_pages::<F>(),
             blocks: Vec::new(alloc),
             tables: Vec::new(alloc),
             alloc,
@@ -259,6 +266,111 @@ impl<F: Format> ListBook<F> {
         let out = output_of::<F>(block, page);
         Some((byte_in::<F>(out, address), block.prot))
     }
+
+    /// What the cutting of the span at an input address, in bytes, is answered where it is refused; None where it
+    /// isn't.
+    ///
+    /// `Misaligned` where the address isn't of whole pages, `Outside` where its page isn't one of the span behind
+    /// the first, `Cuts` with the lowest block that begins before the page and ends behind it. The first of these
+    /// that holds is the answer.
+    pub fn cut_refusal(&self, at: u64) -> Option<ForkAnswer>
+        ensures answer { result ≡ option_map refused_fork (cut_refusal F.layout self.now.book at) }
+        ensures legal { IfSome result (CrossesLegalBlock F.layout) }
+    {
+        if !is_whole::<F>(at) {
+            return Some(ForkAnswer::Misaligned);
+        }
+        let Some(page) = page_of::<F>(at) else {
+            return Some(ForkAnswer::Outside)
+        };
+        if !is_between(self.first, self.count, page) {
+            return Some(ForkAnswer::Outside);
+        }
+        let block = first_across(&self.blocks, page)?;
+        Some(ForkAnswer::Cuts { block })
+    }
+
+    /// The pages that the book is about.
+    pub fn span(&self) -> Span
+        ensures first { result.first ≡ self.now.book.first }
+        ensures count { result.count ≡ self.now.book.count }
+    {
+        Span {
+            first: self.first,
+            count: self.count,
+        }
+    }
+
+    /// Turns the book to the pages from `first` to before `end`. Its blocks and its tables stay, those outside these
+    /// pages too.
+    pub fn stand_in(&mut self, first: u64, end: u64)
+        requires in_order { first ≤ end }
+        requires in_space { end ≤ input_pages F.layout }
+        ensures { self.new ≡ with_book self.old (spanning self.old.book first end) }
+    {
+        self.first = first;
+        self.count = end - first;
+    }
+
+    /// How many blocks lie in the span, and the lowest thousand of them, or all where they are fewer. `Memory` where
+    /// there is none for the list.
+    pub fn dump(&self, alloc: Global) -> Result<Dump, Memory>
+        ensures dumped { IfOk result (λ dump. dump ≡ dumped (blocks_inside self.now.book)) }
+        ensures legal { IfOk result (λ dump. All (IsLegalBlock F.layout) dump.lowest) }
+        ensures stated { IfOk result (λ dump. All (IsStated F.layout) dump.lowest) }
+    {
+        let end = self.first + self.count;
+        let mut inside = blocks_within(alloc, &self.blocks, self.first, end)?;
+        let count = inside.len() as u64;
+        inside.truncate(DUMP_LIMIT);
+        Ok(Dump {
+            count,
+            lowest: Listed::of(inside),
+        })
+    }
+
+    /// The levels of the tree, its linked tables, its blocks, and the pages that these map, in the whole space. None
+    /// where the pages are `2^64` or more.
+    pub fn census(&self) -> Option<Census>
+        ensures { result ≡ (if nat_lt (pages_in self.now.book.blocks) (2 ^ 64)
+            then Some (census_of self.now.levels self.now.book) else None) }
+    {
+        let pages = self.mapped_pages();
+        if pages >= 1 << 64 {
+            return None;
+        }
+        Some(Census {
+            levels: self.top + 1,
+            tables: self.linked_count() as u64,
+            blocks: self.blocks.len() as u64,
+            pages: pages as u64,
+        })
+    }
+
+    /// The number of pages of the blocks.
+    fn mapped_pages(&self) -> u128
+        ensures { result ≡ pages_in self.now.book.blocks }
+    {
+        pages_within(&self.blocks, 0, space_pages::<F>())
+    }
+
+    /// The output address of the byte at an input address, and what is permitted there; None where it has no page
+    /// or its page isn't mapped, whatever the span is. Addresses are in bytes.
+    pub fn walk(&self, address: u64) -> Option<(u64, Prot)>
+        ensures { result ≡ walk_answer F.layout self.now.book address }
+    {
+        match page_of::<F>(address) {
+            None => None,
+            Some(_) => self.lookup(address),
+        }
+    }
+}
+
+/// The pages of the space of a format.
+fn space_pages<F: Format>() -> u64
+    ensures { result ≡ input_pages F.layout }
+{
+    1 << (F::INPUT - F::GRANULE)
 }
 
 /// Whether two addresses and a length are of whole pages, and the length isn't 0.
@@ -281,6 +393,14 @@ fn is_inside(first: u64, count: u64, from: u64, last: u64) -> bool
     ensures { result ≡ (nat_le first from && nat_le last (first + count)) }
 {
     first <= from && last <= first + count
+}
+
+/// Whether a page is one of the `count` pages from page `first`, and not the first of them.
+fn is_between(first: u64, count: u64, page: u64) -> bool
+    requires { first + count < 2 ^ 64 }
+    ensures { result ≡ (nat_lt first page && nat_lt page (first + count)) }
+{
+    first < page && page < first + count
 }
 
 /// The output page of a page of a block.

@@ -4,6 +4,7 @@ ghost use Rattle.std.specs.Prelude.{◌≡◌, ℕ, ◌+◌, ◌^◌, ◌<◌, �
 ghost use Rattle.pt_model.specs.Layout.{end_of, pages, input_pages, output_pages};
 ghost use Rattle.pt_model.specs.Book as book;
 ghost use Rattle.pt_model.specs.Unmap as unmap;
+ghost use Rattle.pt_model.specs.Cuts as cuts;
 ghost use Rattle.pt_model.specs.Tiling.{tiling};
 
 use pt_format::{Block, Format, Prot};
@@ -51,6 +52,46 @@ pub(crate) fn first_cut(blocks: &[Block], first: u64, last: u64) -> Option<Block
         }
     }
     None
+}
+
+/// Whether a block begins before a page and ends behind it.
+fn crosses(block: Block, page: u64) -> bool
+    requires { end_of block < 2 ^ 64 }
+    ensures { result ≡ cuts.crosses page block }
+{
+    block.first < page && page < block.first + (1 << block.log2)
+}
+
+/// The first block of a list that begins before a page and ends behind it.
+pub(crate) fn first_across(blocks: &[Block], page: u64) -> Option<Block>
+    requires { All (λ b. end_of b < 2 ^ 64) blocks.now }
+    ensures { result ≡ find (cuts.crosses page) blocks.now }
+{
+    for block in blocks {
+        if crosses(*block, page) {
+            return Some(*block);
+        }
+    }
+    None
+}
+
+/// The blocks of a list that lie in the pages from `first` to before `last`.
+pub(crate) fn blocks_within(
+    alloc: Global,
+    blocks: &[Block],
+    first: u64,
+    last: u64,
+) -> Result<Vec<Block>, Memory>
+    requires { All (λ b. end_of b < 2 ^ 64) blocks.now }
+    ensures { IfOk result (λ within. within.items ≡ filter (book.lies_in first last) blocks.now) }
+{
+    let mut within = Vec::new(alloc);
+    for block in blocks {
+        if lies_in(*block, first, last) {
+            within.push(*block)?;
+        }
+    }
+    Ok(within)
 }
 
 /// The blocks of a list that don't lie in the pages from `first` to before `last`.
