@@ -4,6 +4,7 @@ pub mod Laws
 pub mod TagFacts
 pub mod TablesAdded
 pub mod PieceFacts
+pub mod PieceRuns
 pub mod LoneGrowth
 pub mod HolderFacts
 -- Numbers, lists and positions: totals over views, a few frames, spans, positions and the pieces over them.
