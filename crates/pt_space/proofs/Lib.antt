@@ -12,5 +12,3 @@ pub mod Looks
 pub mod Marks
 pub mod Parts
 pub mod Opens
-pub mod NewWords
-pub mod Stored
