@@ -1,5 +1,5 @@
 -- What the branches of a fork come to together.
-use Rattle.std.proofs.Common.{◌≡◌, ℕ, ◌+◌, ◌-◌, List, [], ◌∷◌, ◌++◌, true, false, ap, subst, sym, ◌∙◌, arith, None}
+use Rattle.std.proofs.Common.{◌≡◌, ℕ, ◌+◌, ◌-◌, List, [], ◌∷◌, ◌++◌, Bool, true, false, refl, ap, subst, sym, ◌∙◌, arith, None}
 use Rattle.std.specs.Prelude.{min, ◌==◌}
 use Rattle.std.proofs.lemmas.Bool.{ne_eqb}
 use Rattle.std.proofs.lemmas.List.{append-nil}
@@ -12,17 +12,22 @@ use Rattle.pt_model.specs.Layout.{input_pages}
 use Rattle.pt_model.specs.Pages.{page_under}
 use Rattle.pt_model.specs.Book.{Book, span_end}
 use Rattle.pt_model.specs.Cuts.{cut_refusal, part_of}
-use Rattle.pt_model.specs.Run.{Machine, ByLines, fork_answer}
+use Rattle.pt_model.specs.Run.{Machine, Decided, ByLines, InForks, fork_answer}
+use Rattle.pt_script.specs.Numbered.{body_lines}
 use Rattle.pt_laws.specs.Goes.{Goes}
-use Rattle.pt_laws.specs.Laws.{by_lines}
+use Rattle.pt_laws.specs.Laws as laws
+use Rattle.pt_laws.specs.Laws.{DecidesByLines, by_lines}
+use Rattle.pt_laws.specs.OneText.{RunsWhole}
 use Rattle.pt_laws.specs.Need.{need, fork_lines}
+use Rattle.pt_laws.specs.Lines.{Reads}
 use Rattle.pt_laws.specs.Covers.{SoFar, IsDealt}
 use Rattle.pt_laws.proofs.Beside.{beside}
 use Rattle.pt_laws.proofs.Loop.{each_keeps}
 use Rattle.pt_laws.proofs.Same.{cut_inside}
-use Rattle.pt_forks.proofs.Bodies.{closed}
+use Rattle.pt_forks.proofs.Bodies.{body_nested, closed}
 use Rattle.pt_beside.specs.Places.{Place, StaysIn, IsSound, HasGathered, IsSplit, AreBeside, both, stand, is_whole}
 use Rattle.pt_beside.specs.Running.{IsBodyIn, AreOf, Ran, HasForked}
+use Rattle.pt_beside.proofs.Passing.{branch_ran}
 use Rattle.pt_beside.proofs.Listing.{of_on, of_none, told_on, reads_left, reads_right}
 
 -- two parts of a part, whatever their purses have
@@ -102,48 +107,60 @@ pub ran_forked : (IsTold : Answer → Type 0) (p q : Place) (line at middle last
     Ran IsTold p q (fork_lines line at middle last left right [])
     (record { line = line; answer = answer.Fork (fork_answer p.machine p.book at) } ∷ (h.left_replies ++ h.right_replies))
 ran_forked IsTold p q line at middle last left right old new sound ok told left_body right_body h =
-    let m : Machine = p.machine in
     let are = parts p h.gathered h.left_part h.right_part at (need p.machine left + need p.machine right) h.held (min (need p.machine left) h.held) h.gathers h.splits in
     let fork : Reply = record { line = line; answer = answer.Fork (fork_answer p.machine p.book at) } in
+    let lines_of : AreOf (left ++ (record { line = middle; what = With } ∷ (right ++ (record { line = last; what = End } ∷ [])))) (h.left_replies ++ h.right_replies) =
+    of_on left (record { line = middle; what = With } ∷ (right ++ (record { line = last; what = End } ∷ []))) h.left_replies h.right_replies h.left_ran.are_of
+    (AreOf.silent (record { line = middle; what = With }) (right ++ (record { line = last; what = End } ∷ [])) h.right_replies
+    (subst (λ (rs : List Reply). AreOf (right ++ (record { line = last; what = End } ∷ [])) rs) (append-nil h.right_replies)
+    (of_on right (record { line = last; what = End } ∷ []) h.right_replies [] h.right_ran.are_of (of_none (record { line = last; what = End } ∷ []))))) in
+    let through : (by : Decided) (lines : ℕ → Bool) → DecidesByLines by lines → Reads lines (h.left_replies ++ h.right_replies) →
+    Goes p.machine by p.book q.book (fork_lines line at middle last left right []) [] [] (record { line = line; answer = answer.Fork (fork_answer p.machine p.book at) } ∷ (h.left_replies ++ h.right_replies)) =
+    λ by lines decides reads.
+    let one : Goes p.machine (ByLines lines) h.left_part.book h.left_end.book left [] [] h.left_replies =
+    subst (λ (x : Machine). Goes x (ByLines lines) h.left_part.book h.left_end.book left [] [] h.left_replies) are.left_machine
+    (h.left_ran.goes lines (reads_left lines h.left_replies h.right_replies reads)) in
+    let two : Goes p.machine (ByLines lines) h.right_part.book h.right_end.book right [] [] h.right_replies =
+    subst (λ (x : Machine). Goes x (ByLines lines) h.right_part.book h.right_end.book right [] [] h.right_replies) are.right_machine
+    (h.right_ran.goes lines (reads_right lines h.left_replies h.right_replies reads)) in
+    subst (λ (b : Book). Goes p.machine by p.book b (fork_lines line at middle last left right []) [] []
+    (record { line = line; answer = answer.Fork (fork_answer p.machine p.book at) } ∷ (h.left_replies ++ h.right_replies)))
+    (sym (ap (λ (x : Place). x.book) h.joins))
+    (beside p.machine by lines p.book h.left_end.book h.right_end.book line at middle last left right [] h.left_replies h.right_replies decides
+    sound.page sound.lawful ok (closed true left_body.room left left_body.is_body) (closed true right_body.room right right_body.is_body)
+    (subst (λ (b : Book). Goes p.machine (ByLines lines) b h.left_end.book left [] [] h.left_replies) are.left_book one)
+    (subst (λ (b : Book). Goes p.machine (ByLines lines) b h.right_end.book right [] [] h.right_replies) are.right_book two)) in
+    let gathered : h.gathered.purse ≡ h.held = ap (λ (x : Place). x.purse) h.gathers.is in
+    let left_purse : h.left_part.purse ≡ min (need p.machine left) h.held = ap (λ (x : Place). x.purse) h.splits.left_is in
+    let right_purse : h.right_part.purse ≡ h.gathered.purse - min (need p.machine left) h.held = ap (λ (x : Place). x.purse) h.splits.right_is in
+    let dealt : IsDealt p.machine left h.held (stand h.left_part) (stand h.right_part) = record { first = left_purse; second = omega arith } in
+    let one : SoFar p.machine h.left_part.purse left (stand h.left_end) h.left_replies =
+    subst (λ (x : Machine). SoFar x h.left_part.purse left (stand h.left_end) h.left_replies) are.left_machine
+    (branch_ran IsTold h.left_part h.left_end left h.left_replies h.left_ran (left_inside p h.left_part h.right_part at sound ok are)) in
+    let two : SoFar p.machine h.right_part.purse right (stand h.right_end) h.right_replies =
+    subst (λ (x : Machine). SoFar x h.right_part.purse right (stand h.right_end) h.right_replies) are.right_machine
+    (branch_ran IsTold h.right_part h.right_end right h.right_replies h.right_ran (right_inside p h.left_part h.right_part at sound ok are)) in
     record {
-      are_of = AreOf.answered line (Fork at) (answer.Fork (fork_answer p.machine p.book at)) _ _
-          (of_on left (record { line = middle; what = With } ∷ (right ++ (record { line = last; what = End } ∷ []))) h.left_replies h.right_replies h.left_ran.are_of
-          (AreOf.silent (record { line = middle; what = With }) (right ++ (record { line = last; what = End } ∷ [])) h.right_replies
-          (subst (λ (rs : List Reply). AreOf (right ++ (record { line = last; what = End } ∷ [])) rs) (append-nil h.right_replies)
-          (of_on right (record { line = last; what = End } ∷ []) h.right_replies [] h.right_ran.are_of (of_none (record { line = last; what = End } ∷ []))))));
+      are_of = AreOf.answered line (Fork at) (answer.Fork (fork_answer p.machine p.book at)) _ _ lines_of;
       told = (told, told_on IsTold h.left_replies h.right_replies h.left_ran.told h.right_ran.told);
-      goes = λ lines reads.
-          let one : Goes p.machine (ByLines lines) h.left_part.book h.left_end.book left [] [] h.left_replies =
-          subst (λ (x : Machine). Goes x (ByLines lines) h.left_part.book h.left_end.book left [] [] h.left_replies) are.left_machine
-          (h.left_ran.goes lines (reads_left lines h.left_replies h.right_replies reads.1)) in
-          let two : Goes p.machine (ByLines lines) h.right_part.book h.right_end.book right [] [] h.right_replies =
-          subst (λ (x : Machine). Goes x (ByLines lines) h.right_part.book h.right_end.book right [] [] h.right_replies) are.right_machine
-          (h.right_ran.goes lines (reads_right lines h.left_replies h.right_replies reads.1)) in
-          subst (λ (b : Book). Goes p.machine (ByLines lines) p.book b (fork_lines line at middle last left right []) [] []
-          (record { line = line; answer = answer.Fork (fork_answer p.machine p.book at) } ∷ (h.left_replies ++ h.right_replies)))
-          (sym (ap (λ (x : Place). x.book) h.joins))
-          (beside p.machine (ByLines lines) lines p.book h.left_end.book h.right_end.book line at middle last left right [] h.left_replies h.right_replies (by_lines lines)
-          sound.page sound.lawful ok (closed true left_body.room left left_body.is_body) (closed true right_body.room right right_body.is_body)
-          (subst (λ (b : Book). Goes p.machine (ByLines lines) b h.left_end.book left [] [] h.left_replies) are.left_book one)
-          (subst (λ (b : Book). Goes p.machine (ByLines lines) b h.right_end.book right [] [] h.right_replies) are.right_book two));
+      goes = λ lines reads. through (ByLines lines) lines (by_lines lines) reads.1;
       keeps = λ part start done said so.
-          let held = h.gathers.held_is in
-          let left_purse : h.left_part.purse ≡ min (need p.machine left) h.held = ap (λ (x : Place). x.purse) h.splits.left_is in
-          let right_purse : h.right_part.purse ≡ h.gathered.purse - min (need p.machine left) h.held = ap (λ (x : Place). x.purse) h.splits.right_is in
-          let gathered : h.gathered.purse ≡ h.held = ap (λ (x : Place). x.purse) h.gathers.is in
-          let dealt : IsDealt p.machine left (h.gathers.drawn + p.purse) (stand h.left_part) (stand h.right_part) = record {
-            first = left_purse ∙ ap (λ (n : ℕ). min (need p.machine left) n) held;
-            second = omega arith;
-          } in
-          let one : SoFar p.machine h.left_part.purse left (stand h.left_end) h.left_replies =
-          subst (λ (x : Machine). SoFar x h.left_part.purse left (stand h.left_end) h.left_replies) are.left_machine
-          (h.left_ran.keeps (left_inside p h.left_part h.right_part at sound ok are) h.left_part.purse [] []
-          (subst (λ (x : Machine). SoFar x h.left_part.purse [] (stand h.left_part) []) (sym are.left_machine) ((each_keeps p.machine sound.page).start (stand h.left_part)))) in
-          let two : SoFar p.machine h.right_part.purse right (stand h.right_end) h.right_replies =
-          subst (λ (x : Machine). SoFar x h.right_part.purse right (stand h.right_end) h.right_replies) are.right_machine
-          (h.right_ran.keeps (right_inside p h.left_part h.right_part at sound ok are) h.right_part.purse [] []
-          (subst (λ (x : Machine). SoFar x h.right_part.purse [] (stand h.right_part) []) (sym are.right_machine) ((each_keeps p.machine sound.page).start (stand h.right_part)))) in
           (each_keeps p.machine sound.page).fork start line at middle last h.gathers.drawn done left right (stand p) (stand h.left_part) (stand h.left_end)
-          (stand h.right_part) (stand h.right_end) (stand q) (fork_answer p.machine p.book at) said h.left_replies h.right_replies so dealt one two
-          (ap (λ (x : Place). x.purse) h.joins);
+          (stand h.right_part) (stand h.right_end) (stand q) (fork_answer p.machine p.book at) said h.left_replies h.right_replies so
+          (subst (λ (n : ℕ). IsDealt p.machine left n (stand h.left_part) (stand h.right_part)) h.gathers.held_is dealt) one two (ap (λ (x : Place). x.purse) h.joins);
+      whole = λ whole. record {
+        inside = h.left_replies ++ h.right_replies;
+        inside_of = AreOf.silent (record { line = line; what = Fork at }) _ _ lines_of;
+        goes = λ lines reads.
+            let g = through (InForks lines) lines (laws.in_forks lines) reads in
+            record {
+              runs = subst (λ (rs : List Reply). RunsWhole p.machine (InForks lines) (fork_lines line at middle last left right []) (stand p) (stand q)
+                  (record { line = line; answer = answer.Fork (fork_answer p.machine p.book at) } ∷ (h.left_replies ++ rs)) (h.left_replies ++ rs)) (append-nil h.right_replies)
+                  (RunsWhole.fork line at middle last left right [] (stand p) (stand h.left_part) (stand h.right_part) (stand q) (stand q) fork h.left_replies h.right_replies [] []
+                  (body_nested true left_body.room (body_lines left) left_body.is_body left refl) (body_nested true right_body.room (body_lines right) right_body.is_body right refl) ok
+                  (record { held = h.held; enough = h.gathers.enough whole; dealt = dealt }) one.lacks two.lacks (g.state [] refl) (RunsWhole.nothing (stand q)));
+              replies_are = sym (g.replies [] refl ∙ append-nil (record { line = line; answer = answer.Fork (fork_answer p.machine p.book at) } ∷ (h.left_replies ++ h.right_replies)));
+              book_is = g.state [] refl;
+            };
+      };
     }

@@ -36,7 +36,8 @@ use Rattle.pt_forks.specs.Running.{IsOneBody}
 use Rattle.pt_forks.proofs.Bodies.{ForkSlices, closed}
 use Rattle.pt_forks.proofs.Passing.{none, no_fork, first_plain, refuses}
 use Rattle.pt_beside.specs.Places.{Place, StaysIn, IsSound, MayAsk, IsAnswered, stand, is_whole}
-use Rattle.pt_beside.specs.Running.{IsBodyIn, IsBodyOf, AreOf, KeepsOn, Ran, HasReplied, HasPassed}
+use Rattle.pt_beside.specs.Running.{IsBodyIn, IsBodyOf, AreOf, KeepsOn, RanWhole, Ran, HasReplied, HasPassed}
+use Rattle.pt_beside.proofs.Whole.{whole_nothing, whole_on, whole_call, whole_past}
 use Rattle.pt_beside.proofs.Listing.{rise_drop, rise_take, length_drop, of_on, of_none, told_on, reads_left, reads_right}
 
 pub whole_stays : (p q : Place) → StaysIn p q → is_whole q ≡ is_whole p
@@ -64,6 +65,7 @@ ran_nothing IsTold p = record {
   keeps = λ part start done said h.
       subst (λ (ds : List Command). SoFar p.machine start ds (stand p) (said ++ [])) (sym (append-nil done))
       (subst (λ (rs : List Reply). SoFar p.machine start done (stand p) rs) (sym (append-nil said)) h);
+  whole = λ whole. whole_nothing p.machine (stand p);
 }
 
 pub ran_on : (IsTold : Answer → Type 0) (p q r : Place) (xs ys : List Command) (rs qs : List Reply) → StaysIn p q →
@@ -82,7 +84,17 @@ ran_on IsTold p q r xs ys rs qs stays g h = record {
       subst (λ (ds : List Command). SoFar p.machine start ds (stand r) (said ++ (rs ++ qs))) (append_assoc done xs ys)
       (subst (λ (zs : List Reply). SoFar p.machine start ((done ++ xs) ++ ys) (stand r) zs) (append_assoc said rs qs)
       (later start (done ++ xs) (said ++ rs) (g.keeps part start done said so)));
+  whole = λ whole.
+      whole_on p.machine xs ys (stand p) (stand q) (stand r) rs qs (g.whole whole)
+      (subst (λ (m : Machine). RanWhole m (stand q) (stand r) ys qs) stays.machine (h.whole (whole_stays p q stays ∙ whole)));
 }
+
+-- a branch from its start
+pub branch_ran : (IsTold : Answer → Type 0) (p q : Place) (cs : List Command) (rs : List Reply) → Ran IsTold p q cs rs → is_whole p ≡ false →
+    SoFar p.machine p.purse cs (stand q) rs
+branch_ran IsTold p q cs rs ran part =
+    let start : SoFar p.machine p.purse [] (stand p) [] = record { by_need = omega arith; by_use = λ none. omega arith; lacks = tt } in
+    ran.keeps part p.purse [] [] start
 
 -- One call. A set that says of its line whether it was answered `map frames` decides as was decided.
 
@@ -133,6 +145,7 @@ called IsTold p q c a sound call is told = record {
       let d : Decides p.machine p.book q.book lines c.line c.what a = decides p.machine p.book q.book lines c.line c.what a is.lacking call is.answers is.book reads.0 in
       goes_plain p.machine (ByLines lines) p.book q.book c [] a d.lacking [] (record { line = c.line; answer = a } ∷ []) d.says call d.answers d.book refl;
   keeps = λ part start done said so. (each_keeps p.machine sound.page).call start c.line done c.what (stand p) (stand q) a said so (is.leaves part);
+  whole = λ whole. whole_call p.machine (stand p) (stand q) c a is.lacking call (is.account whole) is.answers is.book;
 }
 
 one_body : (inside : Bool) (cs : List Command) → IsBodyIn inside cs → IsOneBody cs []
@@ -254,4 +267,6 @@ ran_refused IsTold p line at middle last left right sound not_forked told one tw
           (closed true one.room left one.is_body) (closed true two.room right two.is_body) refl;
       keeps = λ part start done said so.
           (each_keeps p.machine sound.page).past start line at middle last done left right (stand p) (stand p) (fork_answer p.machine p.book at) said so (record { book = refl; purse = refl });
+      whole = λ whole.
+          whole_past p.machine (stand p) line at middle last left right r.0 r.1 (closed true one.room left one.is_body) (closed true two.room right two.is_body);
     }

@@ -1,16 +1,17 @@
 -- A run over a part of a space in its middle.
-use Rattle.std.specs.Prelude.{◌≡◌, ℕ, ◌+◌, ◌≤◌, ◌<◌, ◌^◌, min, Bool, false, not, List, [], ◌∷◌, ◌++◌, length, take, drop, Result, Ok, Vec}
+use Rattle.std.specs.Prelude.{◌≡◌, ℕ, ◌+◌, ◌≤◌, ◌<◌, ◌^◌, min, Bool, true, false, not, List, [], ◌∷◌, ◌++◌, length, take, drop, Result, Ok, Vec}
 use Rattle.std.specs.Global.{Global}
 use Rattle.pt_model.specs.declared.command.Command.{Command}
 use Rattle.pt_model.specs.declared.command.What.{What}
 use Rattle.pt_model.specs.declared.reply.Answer.{Answer}
 use Rattle.pt_model.specs.declared.reply.Reply.{Reply}
-use Rattle.pt_model.specs.Run.{Machine, ByLines, lacked_lines}
+use Rattle.pt_model.specs.Run.{Machine, ByLines, InForks, at_start, replies_from, state_after, lacked_lines}
 use Rattle.pt_num.specs.declared.Memory.{Memory}
 use Rattle.pt_script.specs.Grammar.{IsBody}
 use Rattle.pt_script.specs.Numbered.{body_lines}
 use Rattle.pt_laws.specs.Goes.{Goes}
-use Rattle.pt_laws.specs.Need.{need}
+use Rattle.pt_laws.specs.Need.{need, IsUncovered}
+use Rattle.pt_laws.specs.OneText.{RunsWhole}
 use Rattle.pt_laws.specs.Lines.{CommandsRise, Reads}
 use Rattle.pt_laws.specs.Covers.{Stand, SoFar, PurseLasts}
 use Rattle.pt_forks.specs.Running.{AreTold}
@@ -40,6 +41,18 @@ abbrev pub KeepsOn : Machine → (s s' : Stand) → List Command → List Reply 
 KeepsOn m s s' commands replies =
     (start : ℕ) (done : List Command) (said : List Reply) → SoFar m start done s said → SoFar m start (done ++ commands) s' (said ++ replies)
 
+-- The machine's run over the whole space, where the account decides of frames outside forks and a set of lines inside them.
+pub record IsRunByLines (m : Machine) (lines : ℕ → Bool) (s s' : Stand) (commands : List Command) (replies inside : List Reply) : Type 0 where
+  pub runs : RunsWhole m (InForks lines) commands s s' replies inside
+  pub replies_are : replies ≡ replies_from m (InForks lines) (at_start s.book) commands
+  pub book_is : state_after m (InForks lines) (at_start s.book) commands ≡ at_start s'.book
+
+-- the same by every set that reads the replies inside forks
+pub record RanWhole (m : Machine) (s s' : Stand) (commands : List Command) (replies : List Reply) : Type 0 where
+  pub inside : List Reply
+  pub inside_of : AreOf commands inside
+  pub goes : (lines : ℕ → Bool) → Reads lines inside → IsRunByLines m lines s s' commands replies inside
+
 -- The commands are run from one place to another, with these replies, each of which has a text. By every set of lines that
 -- reads the replies the machine comes to the same.
 pub record Ran (IsTold : Answer → Type 0) (p q : Place) (commands : List Command) (replies : List Reply) : Type 0 where
@@ -47,6 +60,7 @@ pub record Ran (IsTold : Answer → Type 0) (p q : Place) (commands : List Comma
   pub told : AreTold IsTold replies
   pub goes : (lines : ℕ → Bool) → Reads lines replies → Goes p.machine (ByLines lines) p.book q.book commands [] [] replies
   pub keeps : is_whole p ≡ false → KeepsOn p.machine (stand p) (stand q) commands replies
+  pub whole : is_whole p ≡ true → RanWhole p.machine (stand p) (stand q) commands replies
 
 -- one line, a call, is answered, and its reply put behind the others
 pub record HasReplied (IsTold : Answer → Type 0) (p q : Place) (command : Command) (old new : List Reply) (count : ℕ) : Type 0 where
@@ -93,6 +107,12 @@ pub record HasForked (IsTold : Answer → Type 0) (p q : Place) (at : ℕ) (left
   pub joins : q ≡ both left_end right_end
   pub put : new ≡ old ++ (left_replies ++ right_replies)
 
+-- over the whole space, by the lines that are answered so inside forks; each of these stands in a fork that doesn't cover it
+pub record IsWholeRun (m : Machine) (s s' : Stand) (commands : List Command) (replies : List Reply) : Type 0 where
+  pub inside : List Reply
+  pub is_run : IsRunByLines m (lacked_lines inside) s s' commands replies inside
+  pub uncovered : (line : ℕ) → lacked_lines inside line ≡ true → IsUncovered m (InForks (lacked_lines inside)) (at_start s.book) commands line
+
 -- The commands are run: each reply has a text, and the replies and the book are the machine's, where maps lack frames on the
 -- lines that are answered so. A part of the space loses from its purse at most the need of the commands, and lacks frames
 -- only on lines that want more than it had.
@@ -100,3 +120,4 @@ pub record IsRun (IsTold : Answer → Type 0) (p q : Place) (commands : List Com
   pub told : AreTold IsTold replies
   pub goes : Goes p.machine (ByLines (lacked_lines replies)) p.book q.book commands [] [] replies
   pub lasts : is_whole p ≡ false → PurseLasts p.machine commands (stand p) (stand q) replies
+  pub whole : is_whole p ≡ true → IsWholeRun p.machine (stand p) (stand q) commands replies

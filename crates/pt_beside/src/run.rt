@@ -8,6 +8,7 @@ ghost use Rattle.pt_beside.specs.Places.{StaysIn, IsSound, MayAsk};
 ghost use Rattle.pt_beside.specs.Running.{IsBodyIn, IsBodyOf, Ran, HasReplied, HasPassed, AreMerged, HasForked, IsRun};
 
 use crate::part::Part;
+use pt_laws::printed_uncovered;
 use pt_model::{Answer, Command, ForkAnswer, Reply, What};
 use pt_num::Memory;
 use pt_script::branches;
@@ -34,6 +35,7 @@ pub fn run_parts<G: Sync, P: Part<G> + Send, R: Threads + Sync>(
     ensures stays { StaysIn (P.place part) (P.place result.0) }
     ensures run { IfOk result.1 (λ replies. IsRun P.told (P.place part) (P.place result.0) commands.now replies.items) }
 {
+    printed_uncovered();
     run_commands(rt, alloc, part, commands, gate)
 }
 

@@ -13,6 +13,7 @@ use Rattle.pt_script.specs.Numbered.{body_lines}
 use Rattle.pt_script.specs.Branches.{IsFork, IsForkRest}
 use Rattle.pt_laws.specs.Apart.{depth_behind, may_stand, AreClosed}
 use Rattle.pt_laws.specs.Need.{fork_lines}
+use Rattle.pt_laws.specs.OneText.{is_call, IsNested}
 use Rattle.pt_model.specs.Run.{Opened}
 use Rattle.pt_script.proofs.BranchLemmas.{come_apart, same_fork}
 use Rattle.std.proofs.lemmas.List.{drop_at}
@@ -178,6 +179,41 @@ closed inside room cs b = subst (λ ds. AreClosed 0 ds) (append-nil cs) (body_cl
 
 command_is : (c : Command) (w : What) → c.what ≡ w → c ≡ record { line = c.line; what = w }
 command_is c w e = ap (λ (x : What). (let d : Command = record { line = c.line; what = x } in d)) e
+
+-- a body has a `with` and an `end` for each of its forks
+pub body_nested : (inside : Bool) (room : ℕ) (ls : List Line) → IsBody inside room ls → (cs : List Command) → body_lines cs ≡ ls → IsNested cs
+body_nested _ _ _ (IsBody.nothing inside room) [] e = IsNested.nothing
+body_nested _ _ _ (IsBody.nothing inside room) (c ∷ cs) e = cc
+body_nested _ _ _ (IsBody.map inside room va pa len prot ls b) cs e =
+    let p = first (form.Map va pa len prot) ls cs e in
+    subst IsNested (sym p.is) (IsNested.call p.c p.rest (ap is_call (map_is p.c.what va pa len prot p.line_is)) (body_nested inside room ls b p.rest p.rest_is))
+body_nested _ _ _ (IsBody.unmap inside room va len ls b) cs e =
+    let p = first (form.Unmap va len) ls cs e in
+    subst IsNested (sym p.is) (IsNested.call p.c p.rest (ap is_call (unmap_is p.c.what va len p.line_is)) (body_nested inside room ls b p.rest p.rest_is))
+body_nested _ _ _ (IsBody.lookup inside room va ls b) cs e =
+    let p = first (form.Lookup va) ls cs e in
+    subst IsNested (sym p.is) (IsNested.call p.c p.rest (ap is_call (lookup_is p.c.what va p.line_is)) (body_nested inside room ls b p.rest p.rest_is))
+body_nested _ _ _ (IsBody.dump inside room ls b) cs e =
+    let p = first form.Dump ls cs e in
+    subst IsNested (sym p.is) (IsNested.call p.c p.rest (ap is_call (dump_is p.c.what p.line_is)) (body_nested inside room ls b p.rest p.rest_is))
+body_nested _ _ _ (IsBody.release room ls b) cs e =
+    let p = first form.Release ls cs e in
+    subst IsNested (sym p.is) (IsNested.call p.c p.rest (ap is_call (release_is p.c.what p.line_is)) (body_nested false room ls b p.rest p.rest_is))
+body_nested _ _ _ (IsBody.fork inside room at left right ls l r b) cs e =
+    let p : First (form.Fork at) (left ++ form.With ∷ right ++ form.End ∷ ls) cs = first (form.Fork at) (left ++ form.With ∷ right ++ form.End ∷ ls) cs e in
+    let q : Parts left (form.With ∷ right ++ form.End ∷ ls) p.rest = parts left (form.With ∷ right ++ form.End ∷ ls) p.rest (p.rest_is ∙ append_assoc left (form.With ∷ right) (form.End ∷ ls)) in
+    let w : First form.With (right ++ form.End ∷ ls) q.back = first form.With (right ++ form.End ∷ ls) q.back q.back_is in
+    let s : Parts right (form.End ∷ ls) w.rest = parts right (form.End ∷ ls) w.rest w.rest_is in
+    let z : First form.End ls s.back = first form.End ls s.back s.back_is in
+    let fork : p.c ≡ record { line = p.c.line; what = what.Fork at } = command_is p.c (what.Fork at) (fork_is p.c.what at p.line_is) in
+    let with_ : w.c ≡ record { line = w.c.line; what = what.With } = command_is w.c what.With (with_is w.c.what w.line_is) in
+    let end : z.c ≡ record { line = z.c.line; what = what.End } = command_is z.c what.End (end_is z.c.what z.line_is) in
+    let whole : cs ≡ fork_lines p.c.line at w.c.line z.c.line q.front s.front z.rest =
+    p.is ∙ ap (λ c. c ∷ p.rest) fork
+    ∙ ap (λ ds. record { line = p.c.line; what = what.Fork at } ∷ ds) (q.is ∙ ap (λ ds. q.front ++ ds) (w.is ∙ ap (λ ds. w.c ∷ ds) (s.is ∙ ap (λ ds. s.front ++ ds) (z.is ∙ ap (λ c. c ∷ z.rest) end)) ∙ ap (λ c. c ∷ (s.front ++ (record { line = z.c.line; what = what.End } ∷ z.rest))) with_)) in
+    subst IsNested (sym whole)
+    (IsNested.fork p.c.line at w.c.line z.c.line q.front s.front z.rest (body_nested true room left l q.front q.front_is) (body_nested true room right r s.front s.front_is)
+    (body_nested inside (suc room) ls b z.rest z.rest_is))
 
 take_front : (xs ys : List Command) (n : ℕ) → n ≡ length xs → take n (xs ++ ys) ≡ xs
 take_front xs ys n e = ap (λ k. take k (xs ++ ys)) e ∙ take-append_seam xs ys

@@ -37,7 +37,7 @@ abbrev pub none : Command
 none = record { line = 0; what = Map 0 0 0 Read }
 
 -- the account says the same in every fork and on every line
-account_decides : (p : Place) (forks : List Opened) (line : ℕ) (what : What) → is_lacking p.machine ByAccount (in_forks p.book forks) line what ≡ account_says p what
+pub account_decides : (p : Place) (forks : List Opened) (line : ℕ) (what : What) → is_lacking p.machine ByAccount (in_forks p.book forks) line what ≡ account_says p what
 account_decides p forks line (Map va pa len prot) = refl
 account_decides p forks line (Unmap va len) = refl
 account_decides p forks line (Lookup va) = refl
