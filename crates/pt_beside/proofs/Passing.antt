@@ -36,7 +36,7 @@ use Rattle.pt_forks.specs.Running.{IsOneBody}
 use Rattle.pt_forks.proofs.Bodies.{ForkSlices, closed}
 use Rattle.pt_forks.proofs.Passing.{none, no_fork, first_plain, refuses}
 use Rattle.pt_beside.specs.Places.{Place, StaysIn, IsSound, MayAsk, IsAnswered, stand, is_whole}
-use Rattle.pt_beside.specs.Running.{IsBodyIn, IsBodyOf, AreOf, KeepsOn, RanWhole, Ran, HasReplied, HasPassed}
+use Rattle.pt_beside.specs.Running.{IsBodyIn, IsBodyOf, AreOf, KeepsOn, RanWhole, Ran, HasPassed}
 use Rattle.pt_beside.proofs.Whole.{whole_nothing, whole_on, whole_call, whole_past}
 use Rattle.pt_beside.proofs.Listing.{rise_drop, rise_take, length_drop, of_on, of_none, told_on, reads_left, reads_right}
 
@@ -174,18 +174,19 @@ may_ask p (c ∷ cs) body some call =
     ask_from p c.what call (λ e. not_false (is_whole p)
     (come_apart.release (not (is_whole p)) body.room (body_lines cs) (subst (λ l. IsBody (not (is_whole p)) body.room (l ∷ body_lines cs)) e body.is_body)))
 
-pub passed_call : (IsTold : Answer → Type 0) (p q : Place) (cs : List Command) (old new : List Reply) (count : ℕ) → IsSound p → IsBodyOf p cs → 0 < length cs →
-    is_call (get_or cs 0 none).what ≡ true → HasReplied IsTold p q (get_or cs 0 none) old new count → HasPassed IsTold p q cs old new count
-passed_call IsTold p q [] old new count sound body some call h = absurd (omega arith)
-passed_call IsTold p q (c ∷ cs) old new count sound body some call h =
+pub passed_call : (IsTold : Answer → Type 0) (p q : Place) (cs : List Command) (a : Answer) (old new : List Reply) (count : ℕ) → IsSound p → IsBodyOf p cs → 0 < length cs →
+    is_call (get_or cs 0 none).what ≡ true → IsAnswered p q (get_or cs 0 none).what a → IsTold a → count ≡ 1 →
+    new ≡ old ++ record { line = (get_or cs 0 none).line; answer = a } ∷ [] → HasPassed IsTold p q cs old new count
+passed_call IsTold p q [] a old new count sound body some call is told one put = absurd (omega arith)
+passed_call IsTold p q (c ∷ cs) a old new count sound body some call is told one put =
     let few = body.few in
-    subst (λ (n : ℕ). HasPassed IsTold p q (c ∷ cs) old new n) (sym h.one)
+    subst (λ (n : ℕ). HasPassed IsTold p q (c ∷ cs) old new n) (sym one)
     (record {
       some = omega arith;
       within = omega arith;
-      added = record { line = c.line; answer = h.answer } ∷ [];
-      put = h.put;
-      ran = called IsTold p q c h.answer sound call h.answered h.told;
+      added = record { line = c.line; answer = a } ∷ [];
+      put = put;
+      ran = called IsTold p q c a sound call is told;
       rest = record {
         room = body.room;
         is_body = come_apart.plain (not (is_whole p)) body.room (command_line c.what) (body_lines cs) body.is_body (no_fork c.what call);

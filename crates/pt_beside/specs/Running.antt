@@ -15,7 +15,7 @@ use Rattle.pt_laws.specs.OneText.{RunsWhole}
 use Rattle.pt_laws.specs.Lines.{CommandsRise, Reads}
 use Rattle.pt_laws.specs.Covers.{Stand, SoFar, PurseLasts}
 use Rattle.pt_forks.specs.Running.{AreTold}
-use Rattle.pt_beside.specs.Places.{Place, StaysIn, stand, is_whole, IsAnswered, HasGathered, IsSplit, both}
+use Rattle.pt_beside.specs.Places.{Place, StaysIn, stand, is_whole, HasGathered, IsSplit, both}
 
 -- the commands are a body on lines that rise, inside forks or outside
 pub record IsBodyIn (inside : Bool) (commands : List Command) : Type 0 where
@@ -62,13 +62,12 @@ pub record Ran (IsTold : Answer → Type 0) (p q : Place) (commands : List Comma
   pub keeps : is_whole p ≡ false → KeepsOn p.machine (stand p) (stand q) commands replies
   pub whole : is_whole p ≡ true → RanWhole p.machine (stand p) (stand q) commands replies
 
--- one line, a call, is answered, and its reply put behind the others
-pub record HasReplied (IsTold : Answer → Type 0) (p q : Place) (command : Command) (old new : List Reply) (count : ℕ) : Type 0 where
+-- a call has an answer, which is put as the reply of its one line behind the others
+pub record IsNoted (line : ℕ) (answered : Result Answer Memory) (old new : List Reply) (count : ℕ) : Type 0 where
   pub one : count ≡ 1
   pub answer : Answer
-  pub answered : IsAnswered p q command.what answer
-  pub told : IsTold answer
-  pub put : new ≡ old ++ record { line = command.line; answer = answer } ∷ []
+  pub answer_is : answered ≡ Ok answer
+  pub put : new ≡ old ++ record { line = line; answer = answer } ∷ []
 
 -- the first `count` commands are run, their replies put behind the others, and what is left is a body
 pub record HasPassed (IsTold : Answer → Type 0) (p q : Place) (commands : List Command) (old new : List Reply) (count : ℕ) : Type 0 where

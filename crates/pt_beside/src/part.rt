@@ -22,19 +22,19 @@ pub trait Part<G>: Drop {
     ghost told: { Answer → Type 0 };
 
     /// Answers a command that is no line of a fork. `Memory` where there is none for the answer.
-    fn answer(&mut self, alloc: Global, what: What) -> Result<Answer, Memory>
-        requires { MayAsk (place self.old) what }
-        ensures sound { IsSound (place self.old) }
-        ensures stays { StaysIn (place self.old) (place self.new) }
-        ensures answers { IfOk result (IsAnswered (place self.old) (place self.new) what) }
-        ensures told { IfOk result told };
+    fn answer(self, alloc: Global, what: What) -> (Self, Result<Answer, Memory>)
+        requires { MayAsk (place self) what }
+        ensures sound { IsSound (place self) }
+        ensures stays { StaysIn (place self) (place result.0) }
+        ensures answers { IfOk result.1 (IsAnswered (place self) (place result.0) what) }
+        ensures told { IfOk result.1 told };
 
     /// Whether the span can be cut at an address.
-    fn cut_at(&mut self, at: u64) -> ForkAnswer
-        ensures sound { IsSound (place self.old) }
-        ensures same { place self.new ≡ place self.old }
-        ensures answers { result ≡ fork_answer (place self.old).machine (place self.old).book at }
-        ensures told { told (answer.Fork result) };
+    fn cut_at(self, at: u64) -> (Self, ForkAnswer)
+        ensures sound { IsSound (place self) }
+        ensures same { place result.0 ≡ place self }
+        ensures answers { result.1 ≡ fork_answer (place self).machine (place self).book at }
+        ensures told { told (answer.Fork result.1) };
 
     /// How many frames the maps of commands may take.
     fn need_of(&self, commands: &[Command]) -> u64
@@ -43,8 +43,8 @@ pub trait Part<G>: Drop {
         ensures few { result ≤ length commands.now * 2 ^ 32 };
 
     /// Draws frames until the purse has so many or none is free, and answers how many it has then.
-    fn gather(&mut self, count: u64) -> u32
-        ensures { HasGathered (place self.old) (place self.new) count result };
+    fn gather(self, count: u64) -> (Self, u32)
+        ensures { HasGathered (place self) (place result.0) count result.1 };
 
     /// The parts before and from an address, at which the span can be cut. The left one has the first frames of the purse.
     fn split(self, at: u64, left_frames: u32) -> (Self, Self)
@@ -58,6 +58,6 @@ pub trait Part<G>: Drop {
         ensures { place result ≡ both (place self) (place right) };
 
     /// Passes the gate, before the first command of the branch that a line opens.
-    fn pass(&mut self, gate: &G, branch: u32)
-        ensures { place self.new ≡ place self.old };
+    fn pass(self, gate: &G, branch: u32) -> Self
+        ensures { place result ≡ place self };
 }

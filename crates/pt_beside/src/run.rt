@@ -4,8 +4,8 @@ ghost use Rattle.std.specs.Prelude.{◌≡◌, ◌+◌, ◌<◌, ◌^◌, length
 ghost use Rattle.std.specs.Thread.{IsSync};
 ghost use Rattle.pt_model.specs.Cuts.{cut_refusal};
 ghost use Rattle.pt_forks.specs.Running.{IsFront};
-ghost use Rattle.pt_beside.specs.Places.{StaysIn, IsSound, MayAsk};
-ghost use Rattle.pt_beside.specs.Running.{IsBodyIn, IsBodyOf, Ran, HasReplied, HasPassed, AreMerged, HasForked, IsRun};
+ghost use Rattle.pt_beside.specs.Places.{StaysIn, IsSound};
+ghost use Rattle.pt_beside.specs.Running.{IsBodyIn, IsBodyOf, Ran, IsNoted, HasPassed, AreMerged, HasForked, IsRun};
 
 use crate::part::Part;
 use pt_laws::printed_uncovered;
@@ -85,28 +85,20 @@ fn run_first<G: Sync, P: Part<G> + Send, R: Threads + Sync>(
     if let What::Fork { at } = command.what {
         return run_fork(rt, alloc, part, command.line, at, commands, gate, replies);
     }
-    let mut part = part;
-    let passed = run_call(alloc, &mut part, command, replies);
-    (part, passed)
+    let (part, answered) = part.answer(alloc, command.what);
+    (part, note(command.line, answered, replies))
 }
 
-/// Runs a command that is no line of a fork: one line.
-fn run_call<G: Sync, P: Part<G>>(
-    alloc: Global,
-    part: &mut P,
-    command: Command,
+/// Appends the reply to a call, which is one line.
+fn note(
+    line: u32,
+    answered: Result<Answer, Memory>,
     replies: &mut Vec<Reply>,
 ) -> Result<usize, Memory>
-    requires { MayAsk (P.place part.old) command.what }
-    ensures sound { IsSound (P.place part.old) }
-    ensures stays { StaysIn (P.place part.old) (P.place part.new) }
-    ensures replied { IfOk result (HasReplied P.told (P.place part.old) (P.place part.new) command replies.old.items replies.new.items) }
+    ensures { IfOk result (IsNoted line answered replies.old.items replies.new.items) }
 {
-    let answer = part.answer(alloc, command.what)?;
-    replies.push(Reply {
-        line: command.line,
-        answer,
-    })?;
+    let answer = answered?;
+    replies.push(Reply { line, answer })?;
     Ok(1)
 }
 
@@ -128,8 +120,7 @@ fn run_fork<G: Sync, P: Part<G> + Send, R: Threads + Sync>(
     ensures run { IfOk result.1 (HasPassed P.told (P.place part) (P.place result.0) commands.now replies.old.items replies.new.items) }
 {
     let (middle, last) = branches(commands);
-    let mut part = part;
-    let answer = part.cut_at(at);
+    let (part, answer) = part.cut_at(at);
     let Ok(()) = replies.push(Reply {
         line,
         answer: Answer::Fork(answer),
@@ -177,9 +168,9 @@ fn run_branches<G: Sync, P: Part<G> + Send, R: Threads + Sync>(
 {
     let (opened, first) = (left.line, left.commands);
     let (turned, second) = (right.line, right.commands);
-    let mut part = part;
     let need = part.need_of(first);
-    let held = part.gather(need + part.need_of(second));
+    let both = need + part.need_of(second);
+    let (part, held) = part.gather(both);
     let (before, after) = part.split(at, need.min(u64::from(held)) as u32);
     let ((before, one), (after, two)) = join(
         rt,
@@ -228,7 +219,6 @@ fn run_branch<G: Sync, P: Part<G> + Send, R: Threads + Sync>(
     ensures stays { StaysIn (P.place part) (P.place result.0) }
     ensures run { IfOk result.1 (λ replies. Ran P.told (P.place part) (P.place result.0) commands.now replies.items) }
 {
-    let mut part = part;
-    part.pass(gate, line);
+    let part = part.pass(gate, line);
     run_commands(rt, alloc, part, commands, gate)
 }

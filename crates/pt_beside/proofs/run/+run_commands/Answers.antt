@@ -20,7 +20,7 @@ pub run_branches-join-before-requires-after_bounds :
     goal.run_branches-join-before-requires-after_bounds
 run_branches-join-before-requires-after_bounds g t c κs within =
     let p = g.P.Part.place c.args.part in
-    let are = parts p _ _ _ c.args.at _ _ _ c.gather-held.ensures c.split-before.ensures in
+    let are = parts p _ _ _ c.args.at _ _ _ c.gather-part.ensures c.split-before.ensures in
     let left = subst (λ (b : Bool). IsBodyIn (not b) c.args.left.commands.now) (sym (left_inside p _ _ c.args.at c.requires.sound c.requires.admitted are)) c.requires.left in
     let right = subst (λ (b : Bool). IsBodyIn (not b) c.args.right.commands.now) (sym (right_inside p _ _ c.args.at c.requires.sound c.requires.admitted are)) c.requires.right in (
       (search rules, (search rules, (search rules, (search rules, (search rules, (left, (search rules, search rules, search rules))))))),
@@ -30,13 +30,13 @@ run_branches-join-before-requires-after_bounds g t c κs within =
 pub run_branches-join-requires : goal.run_branches-join-requires
 run_branches-join-requires g t c =
     let p = g.P.Part.place c.args.part in
-    let are = parts p _ _ _ c.args.at _ _ _ c.gather-held.ensures c.split-before.ensures in
+    let are = parts p _ _ _ c.args.at _ _ _ c.gather-part.ensures c.split-before.ensures in
     ends_meet p _ _ c.args.at c.requires.sound c.requires.admitted are _ _ c.join-before.ensures.first.0 c.join-before.ensures.second.0
 
 pub run_branches-returns-clause-stays : goal.run_branches-returns-clause-stays
 run_branches-returns-clause-stays g t c =
     let p = g.P.Part.place c.args.part in
-    let are = parts p _ _ _ c.args.at _ _ _ c.gather-held.ensures c.split-before.ensures in
+    let are = parts p _ _ _ c.args.at _ _ _ c.gather-part.ensures c.split-before.ensures in
     both_stay p _ _ c.args.at c.requires.sound c.requires.admitted are _ _ c.join-before.ensures.first.0 c.join-before.ensures.second.0 _ c.join.ensures
 
 pub run_branches-returns-clause-run : goal.run_branches-returns-clause-run
@@ -47,12 +47,12 @@ run_branches-returns-clause-run g t c =
     let frames = c.min.ensures ∙ ap (λ (n : ℕ). min n c.from.result) c.need_of-need.ensures.need ∙ ap (λ (n : ℕ). min (need m c.args.left.commands.now) n) c.from.ensures in
     IfOk-weaker c.merge.result _ _
     (λ u h. record {
-      gathered = g.P.Part.place c.gather-held.new.self;
-      held = c.gather-held.result;
-      gathers = subst (λ (n : ℕ). HasGathered p (g.P.Part.place c.gather-held.new.self) n c.gather-held.result) sum c.gather-held.ensures;
+      gathered = g.P.Part.place c.gather-part.result.0;
+      held = c.gather-part.result.1;
+      gathers = subst (λ (n : ℕ). HasGathered p (g.P.Part.place c.gather-part.result.0) n c.gather-part.result.1) sum c.gather-part.ensures;
       left_part = g.P.Part.place c.split-before.result.0;
       right_part = g.P.Part.place c.split-before.result.1;
-      splits = subst (λ (n : ℕ). IsSplit (g.P.Part.place c.gather-held.new.self) c.args.at n (g.P.Part.place c.split-before.result.0) (g.P.Part.place c.split-before.result.1))
+      splits = subst (λ (n : ℕ). IsSplit (g.P.Part.place c.gather-part.result.0) c.args.at n (g.P.Part.place c.split-before.result.0) (g.P.Part.place c.split-before.result.1))
           frames c.split-before.ensures;
       left_end = g.P.Part.place c.join-before.result.0.0;
       right_end = g.P.Part.place c.join-before.result.1.0;
@@ -69,12 +69,14 @@ run_branches-returns-clause-run g t c =
 pub run_first-returns : goal.run_first-returns
 run_first-returns g t c =
     let p = g.P.Part.place c.args.part in
+    let q = g.P.Part.place c.answer-part.result.0 in
+    let said = c.answer-part.ensures in
     let call = first_call (not (is_whole p)) c.args.commands.now c.requires.body c.requires.some c.in_default.not-Fork in
     record {
-      stays = c.run_call-passed.ensures.stays;
-      run = IfOk-weaker c.run_call-passed.result _ _
-          (λ n h. passed_call g.P.Part.told p _ c.args.commands.now _ _ n c.run_call-passed.ensures.sound c.requires.body c.requires.some call h)
-          c.run_call-passed.ensures.replied;
+      stays = said.stays;
+      run = IfOk-weaker c.note.result _ _
+          (λ n h. passed_call g.P.Part.told p q c.args.commands.now h.answer _ _ n said.sound c.requires.body c.requires.some call
+          (IfOk-at_ok _ h.answer_is said.answers) (IfOk-at_ok _ h.answer_is said.told) h.one h.put) c.note.ensures;
     }
 
 pub run_fork-branches-middle-requires : goal.run_fork-branches-middle-requires
@@ -107,10 +109,10 @@ run_fork-returns-in-Ok-ran-clause-run g t c =
     let f = fork_slices inside body.room c.args.commands.now front.0 c.args.line c.args.at _ _ body.is_body front.1 c.branches-middle.ensures.fork in
     let left = left_body c.args.commands.now c.args.line c.args.at _ _ inside body.room f body refl in
     let right = right_body c.args.commands.now c.args.line c.args.at _ _ inside body.room f body refl in
-    let cut = c.cut_at-answer.ensures in
+    let cut = c.cut_at-part.ensures in
     let ok = admitted p.machine p.book c.args.at (sym cut.answers ∙ c.in-Forked.is) in
     let told = subst (λ (a : ForkAnswer). g.P.Part.told (answer.Fork a)) cut.answers cut.told in
-    let ran : HasForked g.P.Part.told (g.P.Part.place c.cut_at-answer.new.self) q c.args.at (take (c.branches-middle.result.0 - 1) (drop 1 c.args.commands.now))
+    let ran : HasForked g.P.Part.told (g.P.Part.place c.cut_at-part.result.0) q c.args.at (take (c.branches-middle.result.0 - 1) (drop 1 c.args.commands.now))
     (take (c.branches-middle.result.1 - (c.branches-middle.result.0 + 1)) (drop (c.branches-middle.result.0 + 1) c.args.commands.now)) c.push.new.self.items c.run_branches-joined.new.replies.items =
     IfOk-at_ok _ c.in-Ok-ran.is c.run_branches-joined.ensures.run in
     let h : HasForked g.P.Part.told p q c.args.at (take (c.branches-middle.result.0 - 1) (drop 1 c.args.commands.now))
@@ -133,7 +135,7 @@ run_fork-returns g t c =
     let f = fork_slices inside body.room c.args.commands.now front.0 c.args.line c.args.at _ _ body.is_body front.1 c.branches-middle.ensures.fork in
     let left = left_body c.args.commands.now c.args.line c.args.at _ _ inside body.room f body refl in
     let right = right_body c.args.commands.now c.args.line c.args.at _ _ inside body.room f body refl in
-    let cut = c.cut_at-answer.ensures in
+    let cut = c.cut_at-part.ensures in
     let told = subst (λ (a : ForkAnswer). g.P.Part.told (answer.Fork a)) cut.answers cut.told in
     let put = c.in-Ok.ensures.items
     ∙ ap (λ (a : ForkAnswer). c.args.replies.now.items ++ (let r : Reply = record { line = c.args.line; answer = answer.Fork a } in r) ∷ []) cut.answers in
