@@ -9,6 +9,8 @@ pub mod Installs
 pub mod Writing
 pub mod Unlinks
 pub mod Looks
+pub mod WriteRuns
+pub mod ClearRuns
 pub mod Marks
 pub mod Parts
 pub mod Opens

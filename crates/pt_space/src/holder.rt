@@ -8,9 +8,10 @@ ghost use Rattle.pt_model.specs.Words as words_are;
 ghost use Rattle.pt_view.specs.Views.{IsLawfulAtRest, Rests};
 ghost use Rattle.pt_view.specs.Calls.{IsEntryAt, MeetsEntry, Rooted, Went, left};
 ghost use Rattle.pt_view.specs.Calls.{InstallFinds, IsCleared, IsInstalled, IsUnlinked, IsWritten, MayClear, MayInstall, MayUnlink, MayWrite, UnlinkFinds};
+ghost use Rattle.pt_view.specs.Calls.{IsWrittenRun, MayWriteRun};
 ghost use Rattle.pt_view.specs.Calls.{IsFreed, IsPlaced, IsPrepared, IsReleased, IsTaken, IsUnplaced};
 ghost use Rattle.pt_view.specs.Calls.{FillsSpace, FitsSpace, HasEveryFrame, HasFramesBelow};
-ghost use Rattle.pt_view.specs.Runs.{LooksAtRun, MeetsRun};
+ghost use Rattle.pt_view.specs.Runs.{IsClearedRun, LooksAtRun, MayClearRun, MeetsRun};
 ghost use Rattle.pt_rule.specs.Kinds.{IsLowestIn};
 ghost use Rattle.pt_rule.specs.Meets.{Always, IsWhole};
 ghost use Rattle.pt_space.specs.Standing.{StaysIn, none_aside};
@@ -161,6 +162,19 @@ impl<'a, F: Format> Lease<'a, F> {
         store_piece::<F, Brand>(self.space, &mut self.seat, at, place, word);
     }
 
+    /// Writes words of blocks into `count` entries of the path's last table, from number `first` on: `word`, and
+    /// in each next entry `step` more. Others see the stores one by one.
+    pub fn write_run(&mut self, first: u32, count: u32, word: u64, step: u64)
+        requires { MayWriteRun F.layout self.old.view first count word step }
+        ensures stays { StaysIn F.layout self.old self.new }
+        ensures written { IsWrittenRun F.layout Always first count word step self.old.view self.new.view }
+    {
+        let _depth = self.depth;
+        for i in 0..count {
+            self.write(first + i, word + u64::from(i) * step);
+        }
+    }
+
     /// Clears an entry of the path's last table, at which the word of an own block stands.
     pub fn clear(&mut self, number: u32)
         requires { MayClear F.layout self.old.view number }
@@ -174,6 +188,27 @@ impl<'a, F: Format> Lease<'a, F> {
             number,
         };
         store_piece::<F, Brand>(self.space, &mut self.seat, at, place, 0);
+    }
+
+    /// Clears those of `count` entries of the path's last table, from number `first` on, at which the word of an own
+    /// block stands. The table is of level 0. Answers how many. Others see the stores one by one.
+    pub fn clear_run(&mut self, first: u32, count: u32) -> u32
+        requires { MayClearRun F.layout self.old.view first count }
+        ensures stays { StaysIn F.layout self.old self.new }
+        ensures cleared { IsClearedRun F.layout Always first count self.old.view result self.new.view }
+    {
+        let mut cleared = 0;
+        for i in 0..count {
+            match self.enter(first + i) {
+                Seen::Empty => {}
+                Seen::Leaf(_) => {
+                    self.clear(first + i);
+                    cleared += 1;
+                }
+                Seen::Entered => unreachable!(),
+            }
+        }
+        cleared
     }
 
     /// Unlinks the table at an entry of the path's last table: its frame is then the first of the purse.

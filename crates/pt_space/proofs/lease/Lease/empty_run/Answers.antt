@@ -1,5 +1,6 @@
-use Rattle.std.proofs.Common.{◌≤◌, ◌^◌, arith, pow_mono}
+use Rattle.std.proofs.Common.{arith}
 use Rattle.pt_view.proofs.Stays.{stays_here, stays_on}
+use Rattle.pt_space.proofs.Showing.{entries_few}
 use Rattle.pt_space.proofs.Looks as looks
 use Rattle.pt_space.proofs.lease.Lease.empty_run.Goals as goal
 
@@ -13,9 +14,7 @@ pub overflow_add-first : goal.overflow_add-first
 overflow_add-first g c =
     let lt = c.loop-i-test.true in
     let within = (c.requires.entry c.loop-i.i (omega arith)).within in
-    let law = g.met.F.Format.lawful_layout in
-    let few : 2 ^ g.F.Format.layout.index ≤ 2 ^ 31 = (let bits : g.F.Format.layout.index ≤ 31 = (let a = law.index_is in let b = law.granule_high in omega arith) in pow_mono bits) in
-    omega arith
+    let few = entries_few g.F.Format.layout g.met.F.Format.lawful_layout in omega arith
 
 pub returns-in-Leaf-clause-looks : goal.returns-in-Leaf-clause-looks
 returns-in-Leaf-clause-looks g c = let lt = c.loop-i-test.true in looks.found_leaf c.requires c.loop-i.invariant.looked (omega arith) c.in-Leaf.ensures.went
