@@ -8,6 +8,7 @@ pub mod Purses
 pub mod Installs
 pub mod Writing
 pub mod Unlinks
+pub mod Growths
 pub mod Looks
 pub mod WriteRuns
 pub mod ClearRuns

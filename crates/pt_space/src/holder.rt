@@ -7,7 +7,7 @@ ghost use Rattle.pt_model.specs.Tables.{IsPosition};
 ghost use Rattle.pt_model.specs.Words as words_are;
 ghost use Rattle.pt_view.specs.Views.{IsLawfulAtRest, Rests};
 ghost use Rattle.pt_view.specs.Calls.{IsEntryAt, MeetsEntry, Rooted, Went, left};
-ghost use Rattle.pt_view.specs.Calls.{InstallFinds, IsCleared, IsInstalled, IsUnlinked, IsWritten, MayClear, MayInstall, MayUnlink, MayWrite, UnlinkFinds};
+ghost use Rattle.pt_view.specs.Calls.{InstallFinds, IsCleared, IsGrown, IsInstalled, IsUnlinked, IsWritten, MayClear, MayGrow, MayInstall, MayUnlink, MayWrite, UnlinkFinds};
 ghost use Rattle.pt_view.specs.Calls.{IsWrittenRun, MayWriteRun};
 ghost use Rattle.pt_view.specs.Calls.{IsFreed, IsPlaced, IsPrepared, IsReleased, IsTaken, IsUnplaced};
 ghost use Rattle.pt_view.specs.Calls.{FillsSpace, FitsSpace, HasEveryFrame, HasFramesBelow};
@@ -18,7 +18,9 @@ ghost use Rattle.pt_space.specs.Standing.{StaysIn, none_aside};
 
 use crate::lease::Lease;
 use crate::step::{At, exchange, load, store, store_piece, store_zero};
-use crate::words::{entry_place, frame_address, frame_named, held_word, next_in, placed_word};
+use crate::words::{
+    entry_place, frame_address, frame_named, held_word, next_in, placed_word, root_word,
+};
 use pt_format::Format;
 use pt_num::Span;
 use pt_view::{Seen, Won};
@@ -145,6 +147,40 @@ impl<'a, F: Format> Lease<'a, F> {
         self.level = level - 1;
         self.prepared = None;
         Won::Yes
+    }
+
+    /// Makes the prepared frame the top over the root, and goes to it, where no other holder raised the root before.
+    pub fn grow(&mut self) -> Won
+        requires { MayGrow self.old.view }
+        ensures stays { StaysIn F.layout self.old self.new }
+        ensures grown { IsGrown F.layout Always (IsWhole F.layout self.old.view) self.old.view result self.new.view }
+    {
+        let space = self.space;
+        let level = self.level;
+        let root = self.path[0];
+        let Some(frame) = self.prepared else {
+            unreachable!()
+        };
+        let at = At {
+            depth: self.depth,
+            frame,
+            number: 0,
+        };
+        let place = entry_place::<F>(space.frames, frame, 0);
+        let pointer = F::table_word(level + 1, frame_address::<F>(root));
+        store::<F, Brand>(space, &mut self.seat, at, place, pointer);
+        let old = root_word(root, level);
+        let new = root_word(frame, level + 1);
+        let found = exchange::<F, Brand>(space, &mut self.seat, at, 0, old, new);
+        if found == old {
+            self.path[0] = frame;
+            self.level = level + 1;
+            self.prepared = None;
+            return Won::Yes;
+        }
+        store_zero::<F, Brand>(space, &mut self.seat, at, place);
+        self.depth = 0;
+        Won::Met
     }
 
     /// Writes a word of a block into an entry of the path's last table.
