@@ -15,5 +15,3 @@ pub mod ClearRuns
 pub mod Marks
 pub mod Parts
 pub mod Opens
-pub mod NewWords
-pub mod Stored
