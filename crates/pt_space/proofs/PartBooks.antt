@@ -1,14 +1,13 @@
 -- The book of a part is the book machine's: a view at rest may be split by its book, and its parts have the parts of that book.
-use Rattle.std.proofs.Common.{◌≡◌, ◌⊎◌, inl, inr, ℕ, suc, Bool, true, false, ◌+◌, ◌*◌, ◌<◌, ◌≤◌, List, [], ◌∷◌, ◌++◌, refl, ap, sym, ◌∙◌, subst, arith}
+use Rattle.std.proofs.Common.{◌≡◌, ◌⊎◌, inl, inr, ℕ, Bool, true, false, ◌+◌, ◌*◌, ◌<◌, ◌≤◌, List, [], ◌∷◌, ◌++◌, refl, ap, sym, ◌∙◌, subst, arith}
 use Rattle.std.specs.Prelude.{◌&&◌, filter, nat_le, nat_lt, not, Contains, IsTrue, None}
 use Rattle.std.proofs.lemmas.Bool.{and_from, and_parts, cases_Bool, cases_lt, false≢true, le-leb, le-ltb, leb-true, lt-leb, lt-ltb}
 use Rattle.std.proofs.lemmas.List.Elements.{filter-append}
 use Rattle.std.proofs.lemmas.Nat.{pow_pos}
 use Rattle.std.proofs.Math.Bool.{and-false}
 use Rattle.pt_model.specs.declared.block.Block.{Block}
-use Rattle.pt_model.specs.declared.position.Position.{Position}
 use Rattle.pt_model.specs.Layout.{Layout, end_of, pages_of_entry}
-use Rattle.pt_model.specs.Book.{Book, lies_in, span_end, table_meets}
+use Rattle.pt_model.specs.Book.{Book, lies_in, span_end}
 use Rattle.pt_model.specs.Cuts.{crosses, part_of}
 use Rattle.pt_model.specs.Cuts as books
 use Rattle.pt_model.proofs.Positions.{filter_in, filter_out}
@@ -17,7 +16,7 @@ use Rattle.pt_view.specs.declared.view.View.{View}
 use Rattle.pt_view.specs.declared.view.Node.{Node}
 use Rattle.pt_view.specs.declared.view.Piece.{Piece}
 use Rattle.pt_view.specs.Pieces.{IsLegalPiece, IsOneOf, all_pieces, first_of, level_of, pieces_of}
-use Rattle.pt_view.specs.Views.{IsAtRest, book_of}
+use Rattle.pt_view.specs.Views.{book_of}
 use Rattle.pt_view.proofs.Members.{all_pieces_append, in_block, in_blocks, one_has, one_of_left, one_of_right}
 use Rattle.pt_view.proofs.Pieces.{ends_in_block}
 use Rattle.pt_view.specs.Calls.{is_in_span}
