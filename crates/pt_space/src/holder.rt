@@ -125,6 +125,40 @@ impl<'a, F: Format> Holder<F> for Lease<'a, F> {
         self.level += 1;
     }
 
+    fn place(&mut self, level: u32, base: u64) {
+        let Some(frame) = self.head else {
+            unreachable!()
+        };
+        let at = At {
+            depth: self.depth,
+            frame,
+            number: 0,
+        };
+        let tag = load::<F, Brand>(self.space, &mut self.seat, at, 1 + frame as usize);
+        let next = next_in(tag);
+        let word = placed_word(level, base);
+        store::<F, Brand>(self.space, &mut self.seat, at, 1 + frame as usize, word);
+        self.head = next;
+        self.held -= 1;
+        self.prepared = Some(frame);
+    }
+
+    fn unplace(&mut self) {
+        let Some(frame) = self.prepared else {
+            unreachable!()
+        };
+        let at = At {
+            depth: self.depth,
+            frame,
+            number: 0,
+        };
+        let word = held_word(self.head);
+        store::<F, Brand>(self.space, &mut self.seat, at, 1 + frame as usize, word);
+        self.head = Some(frame);
+        self.held += 1;
+        self.prepared = None;
+    }
+
     fn install(&mut self, number: u32) -> Won {
         let depth = self.depth;
         let level = self.level;
@@ -233,13 +267,13 @@ impl<'a, F: Format> Holder<F> for Lease<'a, F> {
         };
         let word = load::<F, Brand>(self.space, &mut self.seat, at, place);
         let child = frame_named::<F>(F::address_of(self.level, word));
-        store_zero::<F, Brand>(self.space, &mut self.seat, at, place);
         let own = At {
             depth,
             frame: child,
             number: 0,
         };
         let tag = held_word(self.head);
+        store_zero::<F, Brand>(self.space, &mut self.seat, at, place);
         store::<F, Brand>(self.space, &mut self.seat, own, 1 + child as usize, tag);
         self.head = Some(child);
         self.held += 1;
@@ -266,40 +300,6 @@ impl<'a, F: Format> Holder<F> for Lease<'a, F> {
         self.head = Some(frame);
         self.held += 1;
         true
-    }
-
-    fn place(&mut self, level: u32, base: u64) {
-        let Some(frame) = self.head else {
-            unreachable!()
-        };
-        let at = At {
-            depth: self.depth,
-            frame,
-            number: 0,
-        };
-        let tag = load::<F, Brand>(self.space, &mut self.seat, at, 1 + frame as usize);
-        let next = next_in(tag);
-        let word = placed_word(level, base);
-        store::<F, Brand>(self.space, &mut self.seat, at, 1 + frame as usize, word);
-        self.head = next;
-        self.held -= 1;
-        self.prepared = Some(frame);
-    }
-
-    fn unplace(&mut self) {
-        let Some(frame) = self.prepared else {
-            unreachable!()
-        };
-        let at = At {
-            depth: self.depth,
-            frame,
-            number: 0,
-        };
-        let word = held_word(self.head);
-        store::<F, Brand>(self.space, &mut self.seat, at, 1 + frame as usize, word);
-        self.head = Some(frame);
-        self.held += 1;
-        self.prepared = None;
     }
 
     fn release(&mut self) {
