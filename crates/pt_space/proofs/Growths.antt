@@ -1,6 +1,6 @@
 -- A lease makes its prepared frame the top: it stores the pointer to the old top there, exchanges the root's word, and where
 -- another holder raised the root before, stores zero over the pointer.
-use Rattle.std.proofs.Common.{◌≡◌, ◌≢◌, ℕ, Bool, true, zero, suc, ◌+◌, ◌-◌, ◌*◌, ◌/◌, ◌%◌, ◌<◌, List, [], ◌∷◌, length, refl, ap, sym, ◌∙◌, subst, arith, eq-eqb, get_or-set_same}
+use Rattle.std.proofs.Common.{◌≡◌, ◌≢◌, ℕ, Bool, true, zero, suc, ◌+◌, ◌-◌, ◌/◌, ◌%◌, ◌<◌, List, [], ◌∷◌, length, ap, sym, ◌∙◌, subst, arith, eq-eqb, get_or-set_same}
 use Rattle.std.specs.Prelude.{Option, None, Some, slice_index, slice_set, ◌==◌, if◌then◌else◌}
 use prog.Atomic.{either}
 use mathlib.Core.Option.{some, some-injective}

@@ -14,4 +14,5 @@ pub mod WriteRuns
 pub mod ClearRuns
 pub mod Marks
 pub mod Parts
+pub mod PartBooks
 pub mod Opens

@@ -18,14 +18,14 @@ use Rattle.pt_view.specs.declared.view.Piece.{Piece}
 use Rattle.pt_view.specs.declared.view.Change.{Change}
 use Rattle.pt_view.specs.declared.view.Change.TheVariants.{Written}
 use Rattle.pt_view.specs.Lists.{SameFrames}
-use Rattle.pt_view.specs.Pieces.{add_piece, add_pieces, pieces_by, word_of}
+use Rattle.pt_view.specs.Pieces.{add_piece, add_pieces, pieces_by}
 use Rattle.pt_view.specs.Views.{SamePurse, SameRange}
 use Rattle.pt_view.specs.Calls.{ArePieces, IsEntryAt, IsWritten, IsWrittenRun, MayPut, MayWrite, MayWriteRun, entry_end, entry_first, is_in_span, is_under, lowest, off_spine, pieces_at, top_over}
 use Rattle.pt_view.proofs.Stays.{purse_here, purse_on, range_here, range_on}
 use Rattle.pt_rule.specs.Meets.{Always}
 use Rattle.pt_rule.proofs.PieceRuns.{added_more, elsewhere, none_added, pieces_more}
 use Rattle.pt_space.specs.Standing.{Fields, Shows, cut_to}
-use Rattle.pt_space.proofs.Nodes.{level_is, same_place}
+use Rattle.pt_space.proofs.Nodes.{level_is}
 use Rattle.pt_space.proofs.Showing.{take_at, take_length}
 
 -- What the tables of a run's book owe to the path: they are in order, and no table of the path stands lower than its last one.
