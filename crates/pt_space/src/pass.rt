@@ -5,9 +5,7 @@ use pt_format::Format;
 use pt_view::View;
 use std::marker::{Model, PhantomData};
 
-/// The right to a range of a space while no lease uses it. A thread is handed it, and hands it back. Where it is dropped,
-/// the range and the frames of its purse stay as they are, and the space can't be closed.
-#[derive(Drop)]
+/// The right to a range of a space while no lease uses it. It must be spent.
 pub struct Pass<F: Format> {
     pub(crate) seat: Seat<(), View>,
     pub(crate) frames: u32,

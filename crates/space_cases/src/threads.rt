@@ -5,32 +5,32 @@ ghost use Rattle.pt_view.specs.Views.{Rests, SameRange};
 
 use fmt_vtdss::VtdSs;
 use pt_format::Format;
-use pt_space::{Pass, Space};
+use pt_space::{Space, Ticket};
 use pt_view::Holder;
 use std::thread::{Threads, join};
 
-/// A lease of the pass takes a frame, if that is free.
-fn take<F: Format>(space: &Space<F>, pass: Pass<F>, frame: u32) -> Pass<F>
-    requires space { pass.space ≡ space.now }
-    requires rest { Rests F.layout pass.view }
+/// A lease of the ticket's pass takes a frame, if that is free.
+fn take<F: Format>(space: &Space<F>, ticket: Ticket<F>, frame: u32) -> Ticket<F>
+    requires space { ticket.space ≡ space.now }
+    requires rest { Rests F.layout ticket.view }
     requires frame { frame < space.now.frames }
     ensures space { result.space ≡ space.now }
-    ensures range { SameRange pass.view result.view }
+    ensures range { SameRange ticket.view result.view }
     ensures rest { Rests F.layout result.view }
 {
-    let mut lease = space.lease(pass);
+    let mut lease = space.lease(ticket.pass());
     lease.take(frame);
-    lease.pass()
+    Ticket::of(lease.pass())
 }
 
-/// Leases of two passes, each in a thread of its own, take a frame, if that is free.
+/// Leases of two tickets' passes, each in a thread of its own, take a frame, if that is free.
 fn take_beside<F: Format + Send + Sync, R: Threads>(
     rt: &R,
     space: &Space<F>,
-    left: Pass<F>,
-    right: Pass<F>,
+    left: Ticket<F>,
+    right: Ticket<F>,
     frame: u32,
-) -> (Pass<F>, Pass<F>)
+) -> (Ticket<F>, Ticket<F>)
     requires space { (left.space ≡ space.now) × (right.space ≡ space.now) }
     requires rest { Rests F.layout left.view × Rests F.layout right.view }
     requires frame { frame < space.now.frames }
@@ -40,7 +40,7 @@ fn take_beside<F: Format + Send + Sync, R: Threads>(
 {
     join(
         rt,
-        || -> Pass<F>
+        || -> Ticket<F>
             requires space { left.space ≡ space.now }
             requires rest { Rests F.layout left.view }
             requires frame { frame < space.now.frames }
@@ -48,7 +48,7 @@ fn take_beside<F: Format + Send + Sync, R: Threads>(
             ensures range { SameRange left.view result.view }
             ensures rest { Rests F.layout result.view }
         { take(space, left, frame) },
-        || -> Pass<F>
+        || -> Ticket<F>
             requires space { right.space ≡ space.now }
             requires rest { Rests F.layout right.view }
             requires frame { frame < space.now.frames }
@@ -66,11 +66,11 @@ fn one_of_two_threads_takes_a_frame(rt: HostRuntime) {
     };
     let whole = space.lease(pass);
     let (left, right) = whole.split(0x100, 2);
-    let left = left.pass();
-    let right = right.pass();
+    let left = Ticket::of(left.pass());
+    let right = Ticket::of(right.pass());
     let (left, right) = take_beside(&rt, &space, left, right, 6);
-    let left = space.lease(left);
-    let right = space.lease(right);
+    let left = space.lease(left.pass());
+    let right = space.lease(right.pass());
     let joined = left.join(right);
     let Ok(whole) = joined else {
         panic!(rt; "ranges apart")
