@@ -11,6 +11,6 @@ pub mod Unlinks
 pub mod Looks
 pub mod Marks
 pub mod Parts
-pub mod Opens
+pub mod Saved
 pub mod NewWords
 pub mod Stored

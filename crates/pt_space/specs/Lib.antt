@@ -1,3 +1,4 @@
 pub mod Chains
 pub mod Standing
 pub mod Cuts
+pub mod Saved
