@@ -12,7 +12,7 @@ use crate::header::Header;
 use crate::table::{Entry, Table};
 use pt_format::{Block, Format, Prot};
 use pt_num::is_aligned;
-use pt_space::entry_place;
+use pt_words::entry_place;
 
 /// Copies the words of a block from its first entry on, as long as the image has them. Whether it has all of them.
 fn copy_words<F: Format>(

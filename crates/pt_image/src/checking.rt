@@ -13,7 +13,8 @@ use crate::table::Table;
 use crate::walk::visit;
 use pt_format::Format;
 use pt_num::Memory;
-use pt_space::{Sound, placed_word, word_count};
+use pt_space::Sound;
+use pt_words::{placed_word, word_count};
 use std::alloc::Global;
 
 /// The first entry of a frame that isn't zero.

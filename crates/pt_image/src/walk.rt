@@ -11,8 +11,8 @@ use crate::fault::{EntryFault, ImageFault};
 use crate::header::Header;
 use crate::table::{Entry, Table};
 use pt_format::{Format, Read};
-use pt_space::{entry_place, frame_address, frame_named, placed_word};
 use pt_walk::entry_bits;
+use pt_words::{entry_place, frame_address, frame_named, placed_word};
 
 /// Links a frame, whose tag is written, at an entry of a table.
 fn link<F: Format>(

@@ -1,20 +1,15 @@
 -- The call that clears a run of entries: at each of them a piece stands, and is cleared, or none does.
-use Rattle.std.proofs.Common.{◌≡◌, ℕ, zero, suc, Bool, true, false, ◌+◌, ◌-◌, ◌*◌, ◌^◌, ◌<◌, ◌≤◌, List, [], ◌∷◌, length, refl, ap, sym, ◌∙◌, subst, arith, length-append, eq-eqb, ⊎_elim}
-use Rattle.std.specs.Prelude.{IsTrue, ◌==◌, ◌&&◌, filter, if◌then◌else◌, not, nat_le, nat_lt, slice_index, slice_set}
-use Rattle.std.proofs.lemmas.Bool.{and_from, and_parts, cases_Bool, leb-true, lt-ltb, ne_eqb}
+use Rattle.std.proofs.Common.{◌≡◌, ℕ, zero, suc, Bool, ◌+◌, ◌-◌, ◌*◌, ◌^◌, ◌<◌, ◌≤◌, List, [], ◌∷◌, length, refl, ap, sym, ◌∙◌, subst, arith, length-append, eq-eqb}
+use Rattle.std.specs.Prelude.{◌==◌, not, slice_index, slice_set}
+use Rattle.std.proofs.lemmas.Bool.{ne_eqb}
 use Rattle.std.proofs.lemmas.List.{set-get_or}
 use Rattle.pt_model.specs.declared.position.Position.{Position}
 use Rattle.pt_model.specs.Layout.{Layout}
 use Rattle.pt_model.specs.Sets.{one_if}
-use Rattle.pt_model.specs.Tables.{is_same}
 use Rattle.pt_model.specs.Words.{entry_of, entry_place}
-use Rattle.pt_model.proofs.Positions.{filter_in, filter_out}
-use Rattle.pt_model.proofs.Quotients.{entry_some}
 use Rattle.pt_view.specs.declared.view.View.{View}
 use Rattle.pt_view.specs.declared.view.Piece.{Piece}
-use Rattle.pt_view.specs.Pieces.{number_of, table_of}
-use Rattle.pt_view.specs.Views.{SameRange}
-use Rattle.pt_view.specs.Calls.{IsCleared, IsEntryAt, MayClear, MeetsEntry, drop_at, entry_end, entry_first, is_in_span, lowest, meets_span, pieces_at, span_end}
+use Rattle.pt_view.specs.Calls.{IsCleared, IsEntryAt, MayClear, MeetsEntry, drop_at, lowest, pieces_at}
 use Rattle.pt_view.specs.Runs.{IsClearedRun, MayClearRun, drop_run, keep_at, keep_run, stands_outside}
 use Rattle.pt_view.proofs.Stays.{range_here}
 use Rattle.pt_rule.specs.Kinds.{EntryTells, zero as tells_zero, own as tells_own, pointer as tells_pointer, look}

@@ -12,5 +12,3 @@ pub mod Looks
 pub mod Marks
 pub mod Parts
 pub mod Saved
-pub mod NewWords
-pub mod Stored

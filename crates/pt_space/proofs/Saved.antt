@@ -16,12 +16,9 @@ use Rattle.pt_rule.specs.Opening.{IsNew, counting, opening_view}
 use Rattle.pt_rule.specs.Tags.{first_or}
 use Rattle.pt_rule.specs.WholeView.{pieces_in, prepared_frame, tables_in}
 use Rattle.pt_rule.proofs.Laws.{new_is_lawful, views_hold, views_note, whole_is_read}
+use Rattle.pt_words.proofs.NewWords.{counting_length}
 use Rattle.pt_space.specs.Saved.{IsSound, saved_view}
 use Rattle.pt_space.specs.Standing.{Shows}
-
-counting_length : (from count : ℕ) → length (counting from count) ≡ count
-counting_length from zero = refl
-counting_length from (suc count) = let rest = counting_length (from + 1) count in omega arith
 
 pub saved_shows : {f : Layout} (good : IsLayout f) {n l hold : ℕ} {words : List ℕ} → Lawful f n l words (saved_view f n l hold words ∷ []) →
     (count : ℕ) (head : Option ℕ) → count ≡ input_pages f → head ≡ first_or None (counting 1 hold) →

@@ -1,4 +1,3 @@
-pub mod Chains
 pub mod Standing
 pub mod Cuts
 pub mod Saved

@@ -17,10 +17,10 @@ ghost use Rattle.pt_space.specs.Standing.{StaysIn, none_aside};
 
 use crate::lease::Lease;
 use crate::step::{At, exchange, load, store, store_piece, store_zero};
-use crate::words::{entry_place, frame_address, frame_named, held_word, next_in, placed_word};
 use pt_format::Format;
 use pt_num::Span;
 use pt_view::{Seen, Won};
+use pt_words::{entry_place, frame_address, frame_named, held_word, next_in, placed_word};
 use std::marker::Brand;
 
 impl<'a, F: Format> Lease<'a, F> {

@@ -1,9 +1,9 @@
 use Rattle.std.proofs.Common.{◌≡◌, ℕ, ◌+◌, List, ap, sym, ◌∙◌, subst, arith}
 use Rattle.std.specs.Prelude.{None, slice_set}
 use Rattle.pt_rule.specs.Tags.{held_word}
-use Rattle.pt_plain.specs.Chains.{IsChain, IsKept, NamesNext}
-use Rattle.pt_plain.proofs.NewWords.{kept_more, names_none}
-use Rattle.pt_plain.proofs.plain.chain_frames.Goals as goal
+use Rattle.pt_words.specs.Chains.{IsChain, IsKept, NamesNext}
+use Rattle.pt_words.proofs.NewWords.{kept_more, names_none}
+use Rattle.pt_words.proofs.opening.chain_frames.Goals as goal
 
 pub returns-clause-chain : goal.returns-clause-chain
 returns-clause-chain c =

@@ -1,16 +1,21 @@
--- The words of a new space, and its view.
-use Rattle.std.proofs.Common.{◌≡◌, ℕ, ◌+◌, ◌*◌, ◌<◌, ◌≤◌, List, length, sym, ◌∙◌, subst, arith, get_or-set_same, get_or-set_other, length-set}
+-- The words of a new space, and its purse.
+use Rattle.std.proofs.Common.{◌≡◌, ℕ, zero, suc, ◌+◌, ◌*◌, ◌<◌, ◌≤◌, List, length, refl, ap, sym, ◌∙◌, subst, arith, get_or-set_same, get_or-set_other, length-set}
 use Rattle.std.specs.Prelude.{None, Some, slice_index, slice_set}
 use Rattle.pt_model.specs.Layout.{Layout}
 use Rattle.pt_model.specs.Tables.{spine_position, starting_top}
-use Rattle.pt_model.specs.Words.{entry_place, frame_limit, placed_word, tag, word_count}
+use Rattle.pt_model.specs.Words.{entry_place, placed_word, tag, word_count}
 use Rattle.pt_model.proofs.Places.{entry_within, tag_else}
 use mathlib.Core.Logic.{dite}
 use native.Mathlib.Decide.{ℕ_discrete}
 use Rattle.pt_format.specs.Laws.{IsLayout}
 use Rattle.pt_rule.specs.Tags.{held_word}
-use Rattle.pt_rule.specs.Opening.{IsNew}
-use Rattle.pt_space.specs.Chains.{IsChain, IsKept, NamesNext}
+use Rattle.pt_rule.specs.Opening.{IsNew, counting}
+use Rattle.pt_words.specs.Chains.{IsChain, IsKept, NamesNext}
+
+-- a new purse has so many frames
+pub counting_length : (from count : ℕ) → length (counting from count) ≡ count
+counting_length from zero = refl
+counting_length from (suc count) = ap suc (counting_length (from + 1) count)
 
 -- one frame more names the next
 pub names_more : (words : List ℕ) (frame : ℕ) → NamesNext words frame → 1 + frame < length words → NamesNext (slice_set words (1 + frame) (held_word (Some (frame + 1)))) (frame + 1)
@@ -33,7 +38,7 @@ names_none words hold h within = record {
   last = λ some. get_or-set_same words (1 + hold) (held_word None) 0 within;
 }
 
-module _ (f : Layout) (good : IsLayout f) (n l hold : ℕ) (zeros words : List ℕ) (some : 1 ≤ n) (limit : n ≤ frame_limit f) (room : hold < n) (low : f.start ≤ l) (high : l ≤ f.levels)
+module _ (f : Layout) (good : IsLayout f) (n l hold : ℕ) (zeros words : List ℕ) (room : hold < n) (low : f.start ≤ l) (high : l ≤ f.levels)
     (long : length zeros ≡ word_count f n) (zero_all : (at : ℕ) → at < word_count f n → slice_index zeros at ≡ 0) where
   abbrev top : ℕ
   top = starting_top l
