@@ -15,4 +15,4 @@ pub mod ClearRuns
 pub mod Marks
 pub mod Parts
 pub mod PartBooks
-pub mod Opens
+pub mod Saved

@@ -1,3 +1,4 @@
 pub mod Standing
 pub mod Cuts
 pub mod Books
+pub mod Saved

@@ -6,10 +6,13 @@ ghost use Rattle.pt_model.specs.Words as words_are;
 ghost use Rattle.pt_model.specs.Words.{frame_limit};
 ghost use Rattle.pt_rule.specs.Lawful.{Lawful};
 ghost use Rattle.pt_rule.specs.Opening.{opening_view};
+ghost use Rattle.pt_view.specs.Views.{Rests};
+ghost use Rattle.pt_space.specs.Saved.{SaysItsView, saved_view};
 ghost use Rattle.std.specs.Slots.{slots_items, slots_len, IsFull};
 
 use crate::lease::Lease;
 use crate::pass::Pass;
+use crate::sound::Sound;
 use atomic_table::{Closed, Table, TableRule};
 use pt_format::Format;
 use pt_num::Memory;
@@ -18,10 +21,11 @@ use pt_words::{first_frame, new_words};
 use std::alloc::Global;
 use std::marker::{Model, PhantomData};
 
-/// What the table is told when it is made: the frames of the space, the levels that its tree starts with, and how many
-/// frames its first view holds.
-#[derive(Clone, Copy)]
+/// What the table is told when it is made: its words, the frames of the space, the levels that its tree starts with, and
+/// how many frames its first view holds, which are those from frame 1 on.
+#[derive(Drop)]
 pub struct Opening {
+    pub words: Vec<u64>,
     pub frames: u32,
     pub levels: u32,
     pub hold: u32,
@@ -34,11 +38,11 @@ pub struct Rule<F: Format> {
 
 impl<F: Format> TableRule<(), View, Opening> for Rule<F> {
     ghost use Rattle.pt_rule.specs.Lawful.{Lawful};
-    ghost use Rattle.pt_rule.specs.Opening.{opening_view};
+    ghost use Rattle.pt_space.specs.Saved.{saved_view};
 
     ghost holds = { λ key s. Lawful F.layout key.frames key.levels s.words s.views };
 
-    ghost first = { λ key. opening_view F.layout key.frames key.levels key.hold };
+    ghost first = { λ key. saved_view F.layout key.frames key.levels key.hold key.words.items };
 }
 
 /// Words that several holders change at once.
@@ -77,12 +81,54 @@ impl<F: Format> Space<F> {
         ensures view { IfOk result (λ r. r.1.view ≡ opening_view F.layout frames levels hold) }
     {
         let words = new_words::<F>(alloc, frames, levels, hold)?;
-        let opening = Opening {
+        Space::begin(
+            alloc,
+            Opening {
+                words,
+                frames,
+                levels,
+                hold,
+            },
+        )
+    }
+
+    /// The space of words that nobody shares yet. On `Memory` they are given up.
+    pub fn resume(alloc: Global, sound: Sound<F>) -> Result<(Space<F>, Pass<F>), Memory>
+        ensures space { IfOk result (λ r. (r.1.space ≡ r.0) × (r.0.frames ≡ sound.frames) × (r.0.levels ≡ sound.levels)) }
+        ensures view { IfOk result (λ r. r.1.view ≡ saved_view F.layout sound.frames sound.levels 0 sound.words) }
+        ensures rest { IfOk result (λ r. Rests F.layout r.1.view) }
+        ensures lawful { IfOk result (λ r. Lawful F.layout sound.frames sound.levels sound.words (r.1.view ∷ [])) }
+    {
+        let Sound {
+            words,
+            frames,
+            levels,
+            format: _,
+        } = sound;
+        Space::begin(
+            alloc,
+            Opening {
+                words,
+                frames,
+                levels,
+                hold: 0,
+            },
+        )
+    }
+
+    /// The space of these words, and the pass of all of it.
+    fn begin(alloc: Global, about: Opening) -> Result<(Space<F>, Pass<F>), Memory>
+        requires lawful { SaysItsView F.layout about.frames about.levels about.hold about.words.items }
+        ensures space { IfOk result (λ r. (r.1.space ≡ r.0) × (r.0.frames ≡ about.frames) × (r.0.levels ≡ about.levels)) }
+        ensures view { IfOk result (λ r. r.1.view ≡ saved_view F.layout about.frames about.levels about.hold about.words.items) }
+    {
+        let (table, seat) = Table::of_words(alloc, about.words.as_slice(), &about)?;
+        let Opening {
+            words: _,
             frames,
             levels,
             hold,
-        };
-        let (table, seat) = Table::of_words(alloc, words.as_slice(), &opening)?;
+        } = about;
         let space = Space {
             table,
             frames,

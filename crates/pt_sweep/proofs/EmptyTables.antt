@@ -348,12 +348,12 @@ module _ {f : Layout} (good : IsLayout f) {tells alone : Type 0} {v : View} {fir
                     let few = places_filtered (λ q. not (lies_below f first end (level - 1) q)) v.tables child in
                     let o = empty.once child in let s = ap (places child) came_back.tables in omega arith) in
                     frees_one child i.purse.0 i.purse.1 tables once (λ a.
-                        let there : IsAmong v.tables child = elim (table_owned l e a) [
-                          | inl t ↦ t
-                          | inr spine ↦ absurd (false≢true (sym off_spine ∙ subst (λ (k : ℕ). is_spine k child ≡ true) (sym came_back.range.levels) spine))
-                        ] in
-                        subst (λ (ps : List Position). IsAmong ps child) (sym came_back.tables)
-                        (among_passes (λ q. not (lies_below f first end (level - 1) q)) v.tables child there (ap not child_low)));
+                    let there : IsAmong v.tables child = elim (table_owned l e a) [
+                      | inl t ↦ t
+                      | inr spine ↦ absurd (false≢true (sym off_spine ∙ subst (λ (k : ℕ). is_spine k child ≡ true) (sym came_back.range.levels) spine))
+                    ] in
+                    subst (λ (ps : List Position). IsAmong ps child) (sym came_back.tables)
+                    (among_passes (λ q. not (lies_below f first end (level - 1) q)) v.tables child there (ap not child_low)));
                 taken = λ t. (i.told t).taken;
                 stores = λ t. (i.told t).stores;
                 absent = λ t. absences_here (i.told t).absent;

@@ -1,0 +1,10 @@
+mod Entries
+mod Sizes
+mod Numbers
+mod Rebuild
+mod Begun
+mod Groups
+mod Moves
+mod Copying
+mod Starts
+mod Sounds

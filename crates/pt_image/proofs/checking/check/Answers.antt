@@ -1,0 +1,41 @@
+use Rattle.std.proofs.Common.{rules, ◌≡◌, ℕ, ◌+◌, ◌-◌, ◌≤◌, ◌^◌, [], ◌++◌, length, take, drop, sym, ap, ◌∙◌, subst, arith}
+use Rattle.std.proofs.Math.Seq.{take-append_seam}
+use Rattle.std.proofs.lemmas.Nat.{pow_pos}
+use Rattle.pt_model.specs.declared.position.Position.{Position}
+use Rattle.pt_model.specs.Tables.{spine_position, starting_top}
+use Rattle.pt_space.specs.Saved.{IsSound}
+use Rattle.pt_image.specs.Checks.{position_of}
+use Rattle.pt_image.specs.Drafts.{HasSpine, IsBegun, Reaches, Stands}
+use Rattle.pt_image.proofs.Sounds.{draft_is_sound}
+use Rattle.pt_image.proofs.Starts.{starts}
+use Rattle.pt_image.proofs.checking.check.Goals as goal
+
+pub of-requires : goal.of-requires
+of-requires g c =
+    let f = g.F.Format.layout in
+    let law = g.met.F.Format in
+    let good = law.lawful_layout in
+    let n : ℕ = c.args.header.now.frames in
+    let l : ℕ = c.args.header.now.levels in
+    let table = c.in-Some.table in
+    let root = c.in-Some.ensures in
+    let top : ℕ = table.level in
+    let low : l ≤ top + 1 = root.low in
+    let start = c.requires.low in
+    let least = good.start_low in
+    let begun : IsBegun f n (top + 1) table.frame c.deref_mut.result.now = search rules in
+    let begin = starts f good law.words_differ law.steps_agree n (top + 1) table.frame c.deref_mut.result.now c.requires.few root.a_frame
+    (omega arith) (let h = root.high in omega arith) begun in
+    let at : spine_position (starting_top (top + 1)) ≡ position_of table =
+    (let level : top + 1 - 1 ≡ top = omega arith in λ i. record { level = level i; base = sym root.base_is i }) in
+    let stands = subst (λ (p : Position). Stands f n (top + 1) c.deref_mut.result.now begin.0 [] table.frame 0 p) at begin.1 in
+    let end : Reaches f n (top + 1) (starting_top l) c.visit.new.words begin.0 table.frame (2 ^ f.index) (position_of table) =
+    c.in_default-visit.ensures.copies.goes (top + 1) begin.0 [] stands in
+    let spine : HasSpine (starting_top l) (spine_position top) end.view =
+    (let is : position_of table ≡ spine_position top = λ i. record { level = top; base = root.base_is i } in
+    subst (λ (p : Position). HasSpine (starting_top l) p end.view) is (end.spine (pow_pos f.index))) in
+    let sound : IsSound f n l c.visit.new.words =
+    draft_is_sound f n l top c.visit.new.words end.view end.stands.draft (let t = end.stands.top in omega arith) start (omega arith) low spine end.blocks end.stands.pieces in
+    let len : c.in_ok-words.words.len ≡ length c.visit.new.words = (let a = c.visit.ensures.long in let b = c.deref_mut.ensures.len in omega arith) in
+    subst (IsSound f n l) (sym (ap (λ (k : ℕ). take k (c.visit.new.words ++ drop (length c.visit.new.words) c.in_ok-words.words.items)) len
+    ∙ take-append_seam c.visit.new.words (drop (length c.visit.new.words) c.in_ok-words.words.items))) sound
