@@ -51,7 +51,7 @@ glyph_at base (c ∷ cs) zero g h = g.0
 glyph_at base (c ∷ cs) (suc i) g h = glyph_at base cs i g.1 (omega (arith, h))
 
 -- what is written in front of other text
-onto_append : (k base n : ℕ) (acc : List ℕ) → digits_onto k base false n acc ≡ digits_onto k base false n [] ++ acc
+pub onto_append : (k base n : ℕ) (acc : List ℕ) → digits_onto k base false n acc ≡ digits_onto k base false n [] ++ acc
 onto_append zero base n acc = refl
 onto_append (suc k) base n acc =
     let g = digit_glyph false (n % base) in
