@@ -171,7 +171,7 @@ fn releases_change_no_answer(rt: HostRuntime) -> Result<(), Fail> {
 }
 
 /// Frames that run out in a branch.
-const FRAMES: [&[u8]; 8] = [
+const FRAMES: [&[u8]; 5] = [
     // the left branch takes what the right one lacks
     b"fork 0x40000000\nmap 0x0 0x0 0x1000 rw\nmap 0x200000 0x1000 0x1000 rw\nmap 0x400000 0x1000 0x1000 rw\nwith\n\
         map 0x40000000 0x0 0x1000 rw\nmap 0x40200000 0x0 0x1000 rw\nmap 0x40400000 0x0 0x1000 rw\nend\n\
@@ -181,17 +181,29 @@ const FRAMES: [&[u8]; 8] = [
         map 0x200000 0x1000 0x1000 rw\nfork 0x200000\nunmap 0x0 0x200000\nwith\nmap 0x400000 0x0 0x1000 r\n\
         map 0x40000000 0x0 0x1000 r\nend\ndump\n",
     // a branch that lacks frames changes nothing, and a smaller map fits
-    b"fork 0x80000000\nmap 0x0 0x1000 0x1000000 rw\nmap 0x0 0x1000 0x400000 rw\nmap 0x0 0x1000 0x1000 rw\nwith\n\
-        map 0x80000000 0x1000 0x1000000 rw\nmap 0x80000000 0x40000000 0x40000000 rw\nmap 0xc0000000 0x200000 0x200000 rw\n\
+    b"fork 0x80000000\nmap 0x0 0x1000 0xa00000 rw\nmap 0x0 0x1000 0x400000 rw\nmap 0x0 0x1000 0x1000 rw\nwith\n\
+        map 0x80000000 0x1000 0xa00000 rw\nmap 0x80000000 0x40000000 0x40000000 rw\nmap 0xc0000000 0x200000 0x200000 rw\n\
         map 0xc0200000 0x1000 0x1000 rw\nend\nlookup 0x0\nlookup 0xc0000000\ndump\n",
     // in forks in forks, table by table
     b"fork 0x80000000\nfork 0x40000000\nmap 0x0 0x0 0x1000 rw\nmap 0x200000 0x1000 0x1000 rw\nwith\n\
         map 0x40000000 0x0 0x1000 rw\nmap 0x40200000 0x0 0x1000 rw\nend\nwith\nfork 0xc0000000\nmap 0x80000000 0x0 0x1000 rw\n\
         with\nmap 0xc0000000 0x0 0x1000 rw\nmap 0x100000000 0x0 0x1000 rw\nend\nend\ndump\n",
     // an occupied page before the lack of frames
-    b"map 0x0 0x0 0x1000 rw\nfork 0x40000000\nmap 0x0 0x1000 0x1000000 rw\nmap 0x1000000 0x1000 0x1000000 rw\n\
-        map 0x1000 0xffffffffffffe000 0x1000000 rw\nwith\nmap 0x40000000 0x0 0x1000 rw\nmap 0x40000000 0x1000 0x1000000 rw\n\
+    b"map 0x0 0x0 0x1000 rw\nfork 0x40000000\nmap 0x0 0x1000 0xa00000 rw\nmap 0x1000000 0x1000 0xa00000 rw\n\
+        map 0x1000 0xffffffffffffe000 0xa00000 rw\nwith\nmap 0x40000000 0x0 0x1000 rw\nmap 0x40000000 0x1000 0xa00000 rw\n\
         end\ndump\n",
+];
+
+#[test]
+fn frames_run_out_in_a_branch(rt: HostRuntime) -> Result<(), Fail> {
+    for lines in FRAMES {
+        assert!(rt; agree_everywhere(rt.alloc(), lines)?);
+    }
+    Ok(())
+}
+
+/// Tables of a cut's both sides, and the spine, while frames run out.
+const SHARED_TABLES: [&[u8]; 3] = [
     // tables that lie on both sides of a cut are counted once
     b"fork 0x1000\nmap 0x0 0x0 0x1000 rw\nwith\nmap 0x1000 0x0 0x1000 rw\nmap 0x200000 0x1000 0x1000 rw\nend\n\
         fork 0x200000\nunmap 0x0 0x200000\nmap 0x0 0x0 0x1000 rw\nwith\nunmap 0x200000 0x200000\nmap 0x400000 0x0 0x1000 rw\n\
@@ -206,8 +218,8 @@ const FRAMES: [&[u8]; 8] = [
 ];
 
 #[test]
-fn frames_run_out_in_a_branch(rt: HostRuntime) -> Result<(), Fail> {
-    for lines in FRAMES {
+fn tables_of_both_sides_are_counted_once(rt: HostRuntime) -> Result<(), Fail> {
+    for lines in SHARED_TABLES {
         assert!(rt; agree_everywhere(rt.alloc(), lines)?);
     }
     Ok(())

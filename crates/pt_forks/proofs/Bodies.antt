@@ -13,6 +13,7 @@ use Rattle.pt_script.specs.Numbered.{body_lines}
 use Rattle.pt_script.specs.Branches.{IsFork, IsForkRest}
 use Rattle.pt_laws.specs.Apart.{depth_behind, may_stand, AreClosed}
 use Rattle.pt_laws.specs.Need.{fork_lines}
+use Rattle.pt_laws.specs.OneText.{is_call, IsNested}
 use Rattle.pt_model.specs.Run.{Opened}
 use Rattle.pt_script.proofs.BranchLemmas.{come_apart, same_fork}
 use Rattle.std.proofs.lemmas.List.{drop_at}
@@ -179,10 +180,57 @@ closed inside room cs b = subst (λ ds. AreClosed 0 ds) (append-nil cs) (body_cl
 command_is : (c : Command) (w : What) → c.what ≡ w → c ≡ record { line = c.line; what = w }
 command_is c w e = ap (λ (x : What). (let d : Command = record { line = c.line; what = x } in d)) e
 
+-- a body has a `with` and an `end` for each of its forks
+pub body_nested : (inside : Bool) (room : ℕ) (ls : List Line) → IsBody inside room ls → (cs : List Command) → body_lines cs ≡ ls → IsNested cs
+body_nested _ _ _ (IsBody.nothing inside room) [] e = IsNested.nothing
+body_nested _ _ _ (IsBody.nothing inside room) (c ∷ cs) e = cc
+body_nested _ _ _ (IsBody.map inside room va pa len prot ls b) cs e =
+    let p = first (form.Map va pa len prot) ls cs e in
+    subst IsNested (sym p.is) (IsNested.call p.c p.rest (ap is_call (map_is p.c.what va pa len prot p.line_is)) (body_nested inside room ls b p.rest p.rest_is))
+body_nested _ _ _ (IsBody.unmap inside room va len ls b) cs e =
+    let p = first (form.Unmap va len) ls cs e in
+    subst IsNested (sym p.is) (IsNested.call p.c p.rest (ap is_call (unmap_is p.c.what va len p.line_is)) (body_nested inside room ls b p.rest p.rest_is))
+body_nested _ _ _ (IsBody.lookup inside room va ls b) cs e =
+    let p = first (form.Lookup va) ls cs e in
+    subst IsNested (sym p.is) (IsNested.call p.c p.rest (ap is_call (lookup_is p.c.what va p.line_is)) (body_nested inside room ls b p.rest p.rest_is))
+body_nested _ _ _ (IsBody.dump inside room ls b) cs e =
+    let p = first form.Dump ls cs e in
+    subst IsNested (sym p.is) (IsNested.call p.c p.rest (ap is_call (dump_is p.c.what p.line_is)) (body_nested inside room ls b p.rest p.rest_is))
+body_nested _ _ _ (IsBody.release room ls b) cs e =
+    let p = first form.Release ls cs e in
+    subst IsNested (sym p.is) (IsNested.call p.c p.rest (ap is_call (release_is p.c.what p.line_is)) (body_nested false room ls b p.rest p.rest_is))
+body_nested _ _ _ (IsBody.fork inside room at left right ls l r b) cs e =
+    let p : First (form.Fork at) (left ++ form.With ∷ right ++ form.End ∷ ls) cs = first (form.Fork at) (left ++ form.With ∷ right ++ form.End ∷ ls) cs e in
+    let q : Parts left (form.With ∷ right ++ form.End ∷ ls) p.rest = parts left (form.With ∷ right ++ form.End ∷ ls) p.rest (p.rest_is ∙ append_assoc left (form.With ∷ right) (form.End ∷ ls)) in
+    let w : First form.With (right ++ form.End ∷ ls) q.back = first form.With (right ++ form.End ∷ ls) q.back q.back_is in
+    let s : Parts right (form.End ∷ ls) w.rest = parts right (form.End ∷ ls) w.rest w.rest_is in
+    let z : First form.End ls s.back = first form.End ls s.back s.back_is in
+    let fork : p.c ≡ record { line = p.c.line; what = what.Fork at } = command_is p.c (what.Fork at) (fork_is p.c.what at p.line_is) in
+    let with_ : w.c ≡ record { line = w.c.line; what = what.With } = command_is w.c what.With (with_is w.c.what w.line_is) in
+    let end : z.c ≡ record { line = z.c.line; what = what.End } = command_is z.c what.End (end_is z.c.what z.line_is) in
+    let whole : cs ≡ fork_lines p.c.line at w.c.line z.c.line q.front s.front z.rest =
+    p.is ∙ ap (λ c. c ∷ p.rest) fork
+    ∙ ap (λ ds. record { line = p.c.line; what = what.Fork at } ∷ ds) (q.is ∙ ap (λ ds. q.front ++ ds) (w.is ∙ ap (λ ds. w.c ∷ ds) (s.is ∙ ap (λ ds. s.front ++ ds) (z.is ∙ ap (λ c. c ∷ z.rest) end)) ∙ ap (λ c. c ∷ (s.front ++ (record { line = z.c.line; what = what.End } ∷ z.rest))) with_)) in
+    subst IsNested (sym whole)
+    (IsNested.fork p.c.line at w.c.line z.c.line q.front s.front z.rest (body_nested true room left l q.front q.front_is) (body_nested true room right r s.front s.front_is)
+    (body_nested inside (suc room) ls b z.rest z.rest_is))
+
 take_front : (xs ys : List Command) (n : ℕ) → n ≡ length xs → take n (xs ++ ys) ≡ xs
 take_front xs ys n e = ap (λ k. take k (xs ++ ys)) e ∙ take-append_seam xs ys
 
 -- A fork at the front of a body, by its slices.
+pub record ForkSlices (cs : List Command) (line at m l : ℕ) (inside : Bool) (room : ℕ) : Type 0 where
+  pub middle : ℕ
+  pub last : ℕ
+  pub whole : cs ≡ fork_lines line at middle last (take (m - 1) (drop 1 cs)) (take (l - (m + 1)) (drop (m + 1) cs)) (drop (l + 1) cs)
+  pub within : l + 1 ≤ length cs
+  pub less : ℕ
+  pub room_is : room ≡ suc less
+  pub left_body : IsBody true less (body_lines (take (m - 1) (drop 1 cs)))
+  pub right_body : IsBody true less (body_lines (take (l - (m + 1)) (drop (m + 1) cs)))
+  pub rest_body : IsBody inside room (body_lines (drop (l + 1) cs))
+
+-- The same, where an owner stands in cuts.
 pub record FrontFork (cs : List Command) (line at m l : ℕ) (cuts : List Opened) : Type 0 where
   pub middle : ℕ
   pub last : ℕ
@@ -220,11 +268,11 @@ lines_long : (cs : List Command) (ls : List Line) → body_lines cs ≡ ls → l
 lines_long [] ls e = ap length e
 lines_long (c ∷ cs) ls e = (let h = lines_long cs (body_lines cs) refl in omega arith) ∙ ap length e
 
-pub front_fork : (cs rest : List Command) (line at m l : ℕ) (cuts : List Opened) → IsOneBody cs cuts → cs ≡ record { line = line; what = what.Fork at } ∷ rest → IsFork cs m l →
-    FrontFork cs line at m l cuts
-front_fork cs rest line at m l cuts body e fork =
-    let x : IsForkRest body.inside body.room (body_lines rest) =
-    come_apart.fork body.inside body.room at (body_lines rest) (subst (λ ds. IsBody body.inside body.room (body_lines ds)) e body.is_body) in
+pub fork_slices : (inside : Bool) (room : ℕ) (cs rest : List Command) (line at m l : ℕ) → IsBody inside room (body_lines cs) → cs ≡ record { line = line; what = what.Fork at } ∷ rest → IsFork cs m l →
+    ForkSlices cs line at m l inside room
+fork_slices inside room cs rest line at m l body e fork =
+    let x : IsForkRest inside room (body_lines rest) =
+    come_apart.fork inside room at (body_lines rest) (subst (λ ds. IsBody inside room (body_lines ds)) e body) in
     let found : (k : ℕ) × (n : ℕ) × IsFork cs k n = (
       1 + length x.left,
       2 + length x.left + length x.right,
@@ -280,18 +328,34 @@ front_fork cs rest line at m l cuts body e fork =
     ap (drop (l + 1)) all3 ∙ drop_at ((record { line = line; what = what.Fork at } ∷ (q.front ++ (record { line = w.c.line; what = what.With } ∷ []))) ++ (s.front ++ (record { line = z.c.line; what = what.End } ∷ []))) z.rest (l + 1) long_before in
     let left_lines : IsBody true x.less (body_lines (take (m - 1) (drop 1 cs))) = subst (IsBody true x.less) (sym (ap body_lines left_is ∙ q.front_is)) x.is_left in
     let right_lines : IsBody true x.less (body_lines (take (l - (m + 1)) (drop (m + 1) cs))) = subst (IsBody true x.less) (sym (ap body_lines right_is ∙ s.front_is)) x.is_right in
-    let rest_lines : IsBody body.inside body.room (body_lines (drop (l + 1) cs)) = subst (IsBody body.inside body.room) (sym (ap body_lines rest_is ∙ z.rest_is)) x.is_rest in
-    let few = body.few in let room = x.room_is in
+    let rest_lines : IsBody inside room (body_lines (drop (l + 1) cs)) = subst (IsBody inside room) (sym (ap body_lines rest_is ∙ z.rest_is)) x.is_rest in
     record {
       middle = w.c.line;
       last = z.c.line;
       whole = all ∙ sym (ap (λ ds. fork_lines line at w.c.line z.c.line ds (take (l - (m + 1)) (drop (m + 1) cs)) (drop (l + 1) cs)) left_is
           ∙ ap (λ ds. fork_lines line at w.c.line z.c.line q.front ds (drop (l + 1) cs)) right_is ∙ ap (λ ds. fork_lines line at w.c.line z.c.line q.front s.front ds) rest_is);
       within = omega (arith, long_before, ap length all3, length-append ((record { line = line; what = what.Fork at } ∷ (q.front ++ (record { line = w.c.line; what = what.With } ∷ []))) ++ (s.front ++ (record { line = z.c.line; what = what.End } ∷ []))) z.rest);
-      left_closed = closed true x.less (take (m - 1) (drop 1 cs)) left_lines;
-      right_closed = closed true x.less (take (l - (m + 1)) (drop (m + 1) cs)) right_lines;
-      left_body = λ o. record { inside = true; room = x.less; is_body = left_lines; few = omega arith };
-      right_body = λ o. record { inside = true; room = x.less; is_body = right_lines; few = omega arith };
-      rest_body = record { inside = body.inside; room = body.room; is_body = rest_lines; few = few };
+      less = x.less;
+      room_is = x.room_is;
+      left_body = left_lines;
+      right_body = right_lines;
+      rest_body = rest_lines;
+    }
+
+pub front_fork : (cs rest : List Command) (line at m l : ℕ) (cuts : List Opened) → IsOneBody cs cuts → cs ≡ record { line = line; what = what.Fork at } ∷ rest → IsFork cs m l →
+    FrontFork cs line at m l cuts
+front_fork cs rest line at m l cuts body e fork =
+    let f : ForkSlices cs line at m l body.inside body.room = fork_slices body.inside body.room cs rest line at m l body.is_body e fork in
+    let few = body.few in let room = f.room_is in
+    record {
+      middle = f.middle;
+      last = f.last;
+      whole = f.whole;
+      within = f.within;
+      left_closed = closed true f.less (take (m - 1) (drop 1 cs)) f.left_body;
+      right_closed = closed true f.less (take (l - (m + 1)) (drop (m + 1) cs)) f.right_body;
+      left_body = λ o. record { inside = true; room = f.less; is_body = f.left_body; few = omega arith };
+      right_body = λ o. record { inside = true; room = f.less; is_body = f.right_body; few = omega arith };
+      rest_body = record { inside = body.inside; room = body.room; is_body = f.rest_body; few = few };
       room = omega arith;
     }

@@ -1,4 +1,4 @@
 -- A body as commands, and the fork at its front.
-mod Bodies
+pub mod Bodies
 -- What each step of a run comes to.
-mod Passing
+pub mod Passing

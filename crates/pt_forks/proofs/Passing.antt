@@ -33,11 +33,11 @@ use Rattle.pt_forks.specs.Places.{Place, StaysIn, account_says}
 use Rattle.pt_forks.specs.Running.{AreTold, IsOneBody, Comes, HasPassed, HasRun}
 use Rattle.pt_forks.proofs.Bodies.{FrontFork}
 
-abbrev none : Command
+abbrev pub none : Command
 none = record { line = 0; what = Map 0 0 0 Read }
 
 -- the account says the same in every fork and on every line
-account_decides : (p : Place) (forks : List Opened) (line : ℕ) (what : What) → is_lacking p.machine ByAccount (in_forks p.book forks) line what ≡ account_says p what
+pub account_decides : (p : Place) (forks : List Opened) (line : ℕ) (what : What) → is_lacking p.machine ByAccount (in_forks p.book forks) line what ≡ account_says p what
 account_decides p forks line (Map va pa len prot) = refl
 account_decides p forks line (Unmap va len) = refl
 account_decides p forks line (Lookup va) = refl
@@ -47,7 +47,7 @@ account_decides p forks line (Fork at) = refl
 account_decides p forks line With = refl
 account_decides p forks line End = refl
 
-no_fork : (what : What) → is_call what ≡ true → keyword_of (command_line what) ≢ keyword.Fork
+pub no_fork : (what : What) → is_call what ≡ true → keyword_of (command_line what) ≢ keyword.Fork
 no_fork (Map va pa len prot) p e = cc
 no_fork (Unmap va len) p e = cc
 no_fork (Lookup va) p e = cc
@@ -117,7 +117,7 @@ admits (Some (CutsEntry b)) e = cc
 pub admitted : (m : Machine) (b : Book) (at : ℕ) → fork_answer m b at ≡ forking.Forked → cut_refusal m.layout b at ≡ None
 admitted m b at e = admits (cut_refusal m.layout b at) e
 
-refuses : (o : Option CutRefusal) → (elim o as (λ _. ForkAnswer) [ Some refusal ↦ refused_fork refusal | None ↦ forking.Forked ] ≡ forking.Forked → ⊥) → (a : CutRefusal) × (o ≡ Some a)
+pub refuses : (o : Option CutRefusal) → (elim o as (λ _. ForkAnswer) [ Some refusal ↦ refused_fork refusal | None ↦ forking.Forked ] ≡ forking.Forked → ⊥) → (a : CutRefusal) × (o ≡ Some a)
 refuses None n = absurd (n refl)
 refuses (Some a) n = (a, refl)
 

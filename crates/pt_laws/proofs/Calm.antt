@@ -24,7 +24,8 @@ use Rattle.pt_laws.specs.OneText
 use Rattle.pt_laws.specs.OneText.{IsNested, HasNoShortFork, IsOneText, OneText, IsAmple, HoldIsAmple, SharedIsPlain}
 use Rattle.pt_laws.proofs.ForkRuns.{replies_append, state_append, goes_past}
 use Rattle.pt_laws.proofs.NeedRuns.{all_grows, fork_need, need_append, no_account_short, one_linked, uncapped, hold_is_enough}
-use Rattle.pt_laws.proofs.Reading.{Reads, account_as, read_alike}
+use Rattle.pt_laws.specs.Lines.{Reads}
+use Rattle.pt_laws.proofs.Reading.{account_as, read_alike}
 use Rattle.pt_laws.proofs.Purses.{fork_whole}
 use Rattle.pt_laws.proofs.Whole.{nested_closed, nested_ends, printed_uncovered}
 

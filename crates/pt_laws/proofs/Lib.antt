@@ -18,8 +18,8 @@ pub mod Enough
 pub mod NeedRuns
 mod Counting
 -- What a purse loses inside forks, and the lines that a fork covers.
-mod Purses
-mod Loop
+pub mod Purses
+pub mod Loop
 mod Covering
 mod Whole
 mod Calm

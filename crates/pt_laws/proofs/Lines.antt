@@ -1,5 +1,5 @@
 -- Sets of lines that agree on the lines of commands decide the same; two sets become one at a line between.
-use Rattle.std.proofs.Common.{◌≡◌, ℕ, ◌<◌, ◌≤◌, List, [], ◌∷◌, Bool, refl, ap, sym, ◌∙◌, None}
+use Rattle.std.proofs.Common.{◌≡◌, ℕ, ◌<◌, List, [], ◌∷◌, Bool, refl, ap, sym, ◌∙◌, None}
 use Rattle.std.specs.Prelude.{nat_lt, if◌then◌else◌}
 use Rattle.std.proofs.lemmas.Bool.{lt-ltb, le-ltb}
 use Rattle.pt_model.specs.declared.command.What.{What}
@@ -7,6 +7,7 @@ use Rattle.pt_model.specs.declared.command.What.TheVariants.{Map, Unmap, Lookup,
 use Rattle.pt_model.specs.declared.command.Command.{Command}
 use Rattle.pt_model.specs.Run.{Machine, State, ByLines, is_lacking, is_running, answer_to, answer_of, book_after, behind_what, behind, reply_before, replies_from, state_after}
 use Rattle.pt_model.specs.declared.reply.Reply.{Reply}
+use Rattle.pt_laws.specs.Lines.{LinesFrom}
 
 abbrev pub AgreeOn : (a b : ℕ → Bool) → List Command → Type 0
 AgreeOn a b [] = Unit {0}
@@ -56,10 +57,6 @@ split_at line a b n = if nat_lt n line then a n else b n
 abbrev pub LinesBelow : ℕ → List Command → Type 0
 LinesBelow line [] = Unit {0}
 LinesBelow line (c ∷ cs) = (c.line < line) × LinesBelow line cs
-
-abbrev pub LinesFrom : ℕ → List Command → Type 0
-LinesFrom line [] = Unit {0}
-LinesFrom line (c ∷ cs) = (line ≤ c.line) × LinesFrom line cs
 
 pub agrees_below : (line : ℕ) (a b : ℕ → Bool) (cs : List Command) → LinesBelow line cs → AgreeOn a (split_at line a b) cs
 agrees_below line a b [] h = tt

@@ -12,15 +12,10 @@ use Rattle.pt_model.specs.Pages.{page_under}
 use Rattle.pt_model.specs.Book as book
 use Rattle.pt_model.specs.Book.{Book, MapRefusal, map_refusal, mapped}
 use Rattle.pt_model.specs.Run.{Machine, refused_answer, lacks_frames, after_map, State, Decided, ByAccount, InForks, ByLines, lacks, is_in_fork, is_running, is_lacking, map_answer, answer_of, book_after, behind, reply_before, replies_from, state_after, is_frames, lacked_lines}
-use Rattle.pt_laws.proofs.Lines.{LinesFrom}
+use Rattle.pt_laws.specs.Lines.{LinesFrom, CommandsRise, Reads}
 use Rattle.pt_model.specs.declared.reply.Answer.{Answer}
 use Rattle.pt_model.specs.declared.reply.Answer.TheVariants as answer
 use Rattle.pt_model.specs.declared.reply.Reply.{Reply}
-
--- at each reply's line the set says whether it is `map frames`
-abbrev pub Reads : (ℕ → Bool) → List Reply → Type 0
-Reads l [] = Unit {0}
-Reads l (r ∷ rs) = (l r.line ≡ is_frames r.answer) × Reads l rs
 
 -- where the set says of a line what decided, it decides so
 abbrev pub DecidesAs : Decided → Decided → (ℕ → Bool) → Type 0
@@ -155,10 +150,6 @@ reads_itself (r ∷ rs) h = (
 )
 
 -- The lines of replies rise where those of the commands do.
-abbrev pub CommandsRise : List Command → Type 0
-CommandsRise [] = Unit {0}
-CommandsRise (c ∷ cs) = LinesFrom (c.line + 1) cs × CommandsRise cs
-
 before_after : (n line : ℕ) (o : Option Answer) (rs : List Reply) → n < line → LinesAfter n rs → LinesAfter n (reply_before line o rs)
 before_after n line None rs less h = h
 before_after n line (Some a) rs less h = (less, h)

@@ -56,7 +56,7 @@ use Rattle.pt_map.proofs.PastRoot.{low_spine, past_top}
 use Rattle.pt_map.proofs.MapResults.{Standing, rested}
 use Rattle.pt_map.proofs.MapResults as results
 use Rattle.pt_map.proofs.MapFromTable.{linked_same}
-use Rattle.pt_map.proofs.TablesAfter.{member_at, sorted_tables, tables_after}
+use Rattle.pt_map.proofs.TablesAfter.{covered_many, member_at, sorted_tables, tables_after}
 
 -- An extent of a holder at rest may be mapped, and the root was loaded, which is too low for it.
 module _ {f : Layout} (good : IsLayout f) {tells alone : Type 0} {v u : View} {x : Extent} {root : ℕ} (may : MayMap f v x) (past : pages_of_table f root < x.end) (rooted : Rooted f tells alone v root u) where
@@ -315,6 +315,9 @@ module _ {f : Layout} (good : IsLayout f) {tells alone : Type 0} {v u : View} {x
           (Top root ∷ [] ++ here.0, here.1 ∙ ap (λ (xs : List Absence). xs ++ here.0) (rooted.told t).1 ∙ append_assoc v.absent (Top root ∷ []) here.0, s);
     }
 
+    replaced_same : length (replaced f u (tiles f x)) ≡ length (replaced f v (tiles f x))
+    replaced_same = ap (λ (ps : List Position). length (filter (is_replaced f (tiles f x)) ps)) rooted.book.tables
+
     pub is_mapped : IsMapped f tells v (rested w) blocks x
     is_mapped = record {
       range = (let r = range_on rooted.range m.range in record { frames = r.frames; levels = r.levels; first = r.first; count = r.count });
@@ -328,7 +331,9 @@ module _ {f : Layout} (good : IsLayout f) {tells alone : Type 0} {v u : View} {x
         drawn = m.drawn;
         linked = m.used;
         purse = ap (λ (xs : List ℕ). m.freed ++ (m.drawn ++ xs)) (sym rooted.purse.purse) ∙ m.purse;
+        back = let b = m.back in let gone = replaced_same in let same = covered_many good v may.inside.extent aligned in omega arith;
         few = (let a = m.few in let b = unknown_few in let e = far_many in omega arith);
+        within = (let a = m.few in let e = far_many in omega arith);
         spared = (let a = m.spared in let p : length u.purse ≡ length v.purse = ap length rooted.purse.purse in let e = far_many in omega arith);
       };
       known = λ p h. m.known p ((root_loads rooted).known p h);
@@ -402,8 +407,8 @@ module _ {f : Layout} (good : IsLayout f) {tells alone : Type 0} {v u : View} {x
           let levels : w.levels ≡ v.levels = m.range.levels ∙ rooted.range.levels in
           let count_w : length (levels_between (starting_top w.levels) w.top) ≡ w.top + 1 - starting_top w.levels = length-range_with_len (starting_top w.levels) (w.top + 1 - starting_top w.levels) in
           let count_v : length (levels_between (starting_top v.levels) v.top) ≡ v.top + 1 - starting_top v.levels = length-range_with_len (starting_top v.levels) (v.top + 1 - starting_top v.levels) in
-          let gone : length (replaced f u (tiles f x)) ≡ length (replaced f v (tiles f x)) = ap (λ (ps : List Position). length (filter (is_replaced f (tiles f x)) ps)) rooted.book.tables in
-          let back = m.back a_u in let used = m.few in
+          let gone = replaced_same in
+          let back = m.only a_u in let used = m.few in
           let purse : length u.purse ≡ length v.purse = ap length rooted.purse.purse in
           let sum : length (m.freed ++ (m.drawn ++ u.purse)) ≡ length (m.used ++ w.purse) = ap length m.purse in
           let left : length (m.freed ++ (m.drawn ++ u.purse)) ≡ length m.freed + (length m.drawn + length u.purse) =

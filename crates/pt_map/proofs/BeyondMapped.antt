@@ -389,15 +389,19 @@ module _ {f : Layout} (good : IsLayout f) {tells : Type 0} {v c g : View} {x : E
         pub may_fill : MayFill f y x level
         may_fill = record { store = store; lacking = lacking; room = room }
 
-        -- the frames of the tables that blocks take the place of are those freed
-        freed_all : alone → length made.purse.0 ≡ length (replaced f v (tiles f x))
-        freed_all a =
-            let count : length z.purse + length z.tables ≡ length g.purse + length g.tables = made.count (to_g a) in
-            let l = longer in
+        -- the frames of the tables that blocks take the place of came, and over a lone holder no other
+        many_left : length z.tables + length (replaced f v (tiles f x)) ≡ length g.tables
+        many_left =
             let left : length z.tables ≡ length (filter (λ p. not (is_replaced f (tiles f x) p)) v.tables) =
             ap length made.tables ∙ ap (λ (ps : List Position). length (filter (λ p. not (is_replaced f (tiles f x) p)) ps)) book_kept.tables in
             let all : length g.tables ≡ length v.tables = ap length book_kept.tables in
             let parts = two_parts (is_replaced f (tiles f x)) v.tables in omega arith
+
+        each_freed : length (replaced f v (tiles f x)) ≤ length made.purse.0
+        each_freed = let each = made.frees.each in let l = longer in let t = many_left in omega arith
+
+        only_freed : alone → length made.purse.0 ≡ length (replaced f v (tiles f x))
+        only_freed a = let only = made.frees.only (to_g a) in let l = longer in let t = many_left in omega arith
 
         -- The extent was written, from view y to view w.
         module _ {w : View} (fills : Fills f tells y w x level) where
@@ -426,7 +430,8 @@ module _ {f : Layout} (good : IsLayout f) {tells : Type 0} {v c g : View} {x : E
                 used = raises.used ++ spends.used;
                 purse = ap (λ (xs : List ℕ). made.purse.0 ++ xs) (sym drawn_kept) ∙ sym made.purse.1 ∙ raises.purse
                     ∙ ap (λ (xs : List ℕ). raises.used ++ xs) spends.purse ∙ sym (append_assoc raises.used spends.used w.purse);
-                back = freed_all;
+                back = each_freed;
+                only = only_freed;
                 spared = (let s = gathered.spared in omega arith);
                 few =
                     let sum = length-append raises.used spends.used in let s = spends.few in

@@ -35,7 +35,7 @@ use Rattle.pt_map.proofs.LackingTables.{absent_all, absent_few, absent_most, abs
 use Rattle.pt_map.specs.Replaced.{is_replaced, replaced}
 use Rattle.pt_map.specs.Filled.{top_with}
 use Rattle.pt_map.proofs.TopsOver.{top_of_tiling}
-use Rattle.pt_map.proofs.TablesAfter.{tables_after}
+use Rattle.pt_map.proofs.TablesAfter.{covered_many, tables_after}
 use Rattle.pt_tile.specs.Extents.{IsExtent, tables_below, tables_of, tiles}
 use Rattle.pt_map.specs.Stands.{IsOwnTable}
 use Rattle.pt_tile.proofs.FirstSizes.{extent_tiling}
@@ -157,6 +157,9 @@ module _ {f : Layout} (good : IsLayout f) {tells : Type 0} {v d : View} {blocks 
         ∙ adds_pieces good x.prot x.first x.out (x.end - x.first) (tiles f x) blocks (extent_tiling good stand.extent)
         (in_order_from 0 blocks (λ k b less e. omega arith) stand.lawful.in_order) apart
 
+    replaced_same : length (replaced f d (tiles f x)) ≡ length (replaced f v (tiles f x))
+    replaced_same = ap (λ (ps : List Position). length (filter (is_replaced f (tiles f x)) ps)) stand.walked.book.tables
+
     pub is_mapped : IsMapped f tells v (rested w) blocks x
     is_mapped = record {
       range = range_rested v w (range_on stand.walked.range m.range);
@@ -175,7 +178,9 @@ module _ {f : Layout} (good : IsLayout f) {tells : Type 0} {v d : View} {blocks 
         drawn = m.drawn;
         linked = m.used;
         purse = ap (λ (xs : List ℕ). m.freed ++ (m.drawn ++ xs)) (sym purse_same) ∙ m.purse;
+        back = let b = m.back in let gone = replaced_same in let same = covered_many good v stand.extent stand.aligned in omega arith;
         few = (let a = m.few in let b = few in omega arith);
+        within = m.few;
         spared = (let a = m.spared in let p : length d.purse ≡ length v.purse = ap length purse_same in omega arith);
       };
       known = λ p h. m.known p (stand.walked.known p h);
@@ -197,8 +202,8 @@ module _ {f : Layout} (good : IsLayout f) {tells : Type 0} {v d : View} {blocks 
           let least : least_top f v.levels (x.first + (x.end - x.first)) ≡ least_top f v.levels x.end = ap (least_top f v.levels) ends in omega arith) in
           let levels : w.levels ≡ v.levels = m.range.levels ∙ stand.walked.range.levels in
           let spine : length (levels_between (starting_top w.levels) w.top) ≡ length (levels_between (starting_top v.levels) v.top) = (λ i. length (levels_between (starting_top (levels i)) (top i))) in
-          let gone : length (replaced f d (tiles f x)) ≡ length (replaced f v (tiles f x)) = ap (λ (ps : List Position). length (filter (is_replaced f (tiles f x)) ps)) stand.walked.book.tables in
-          let back = m.back a in let used = m.few in
+          let gone = replaced_same in
+          let back = m.only a in let used = m.few in
           let purse : length d.purse ≡ length v.purse = ap length purse_same in
           let sum : length (m.freed ++ (m.drawn ++ d.purse)) ≡ length (m.used ++ w.purse) = ap length m.purse in
           let left : length (m.freed ++ (m.drawn ++ d.purse)) ≡ length m.freed + (length m.drawn + length d.purse) =

@@ -63,7 +63,7 @@ unlinks_for {v = v} p r tables less u = record {
   busy = u.busy;
   known = λ q h none. u.known q h (less q none);
   purse = u.purse;
-  count = u.count;
+  frees = u.frees;
   taken = u.taken;
   stores = u.stores;
   absent = u.absent;

@@ -1,7 +1,7 @@
 -- The tables of a book after a map.
 use Rattle.std.proofs.lemmas.Bool.{and_from, and_parts, cases_Bool, cases_lt, false_from_ne_true, false≢true, leb-true, le-leb, not-true, or_cases, or_left, or_right}
 use Rattle.std.proofs.Common.{◌≡◌, ℕ, suc, ◌+◌, ◌*◌, ◌/◌, ◌%◌, ◌^◌, ◌<◌, ◌≤◌, ◌⊎◌, ◌↔◌, List, [], ◌∷◌, Bool, true, false, inl, inr, refl, ap, sym, subst, ◌∙◌, arith}
-use Rattle.std.specs.Prelude.{IsTrue, nat_le, not, filter, length, slice_index_or, AllPairs}
+use Rattle.std.specs.Prelude.{IsTrue, if◌then◌else◌, nat_le, not, filter, length, slice_index_or, AllPairs}
 use Rattle.std.specs.List.{list_any}
 use Rattle.std.proofs.lemmas.Nat.{le-div, pow-add, pow_pos}
 use Rattle.std.proofs.Math.Pow.{pow_mono}
@@ -11,12 +11,12 @@ use Rattle.pt_model.specs.Layout.{Layout, end_of, pages_of_table}
 use Rattle.pt_model.specs.Tables.{end_of_table, is_before, is_spine, all_needed}
 use Rattle.pt_model.specs.Sets.{IsSorted, IsAmong}
 use Rattle.pt_model.specs.Book.{table_lies_in}
-use Rattle.pt_model.proofs.Positions.{among_none, adds_by_members, among_filtered, among_passes, among_cases, sorted_filter}
+use Rattle.pt_model.proofs.Positions.{among_here, among_more, among_none, adds_by_members, among_filtered, among_passes, among_cases, sorted_filter}
 use Rattle.pt_format.specs.Laws.{IsLayout}
 use Rattle.pt_view.specs.declared.view.View.{View}
 use Rattle.pt_tile.specs.declared.extent.Extent.{Extent}
-use Rattle.pt_map.specs.Answers.{book_with}
-use Rattle.pt_map.specs.Replaced.{is_replaced}
+use Rattle.pt_map.specs.Answers.{book_with, covered}
+use Rattle.pt_map.specs.Replaced.{is_replaced, replaced}
 use Rattle.pt_map.proofs.NeededTables.{needed_same}
 use Rattle.pt_map.proofs.ReplacedTables.{replaced_ends, replaced_is}
 use Rattle.pt_tile.specs.Extents.{IsExtent, IsOneBlock, tables_of, tiles}
@@ -71,6 +71,14 @@ lies_low index level log2 first base some from to =
     ] in
     let h : level + 1 ≤ log2 / index = le-div (level + 1) log2 index some (let c : (level + 1) * index ≡ index * (level + 1) = omega arith in omega arith) in omega arith
 
+-- filters by tests that say the same of each member
+filters_alike : (s t : Position → Bool) (ps : List Position) → ((p : Position) → IsAmong ps p → s p ≡ t p) → filter s ps ≡ filter t ps
+filters_alike s t [] same = refl
+filters_alike s t (p ∷ ps) same =
+    let here : s p ≡ t p = same p (among_here p ps) in
+    let rest : filter s ps ≡ filter t ps = filters_alike s t ps (λ q m. same q (among_more q p ps m)) in
+    λ i. if here i then p ∷ rest i else rest i
+
 module _ {f : Layout} (good : IsLayout f) (v : View) {x : Extent} (part : IsExtent f x) where
   -- for a table at a multiple of its pages the book machine's test is that of the map
   same_test : (p : Position) → p.base % pages_of_table f p.level ≡ 0 → lies_in_any f (tiles f x) p ≡ is_replaced f (tiles f x) p
@@ -87,6 +95,10 @@ module _ {f : Layout} (good : IsLayout f) (v : View) {x : Extent} (part : IsExte
         let some = pow_pos (f.index * (p.level + 1)) in
         false≢true (sym none ∙ replaced_is f p (tiles f x) r.0 r.1 (low, from, omega arith))) ∙ sym none
   ]
+
+  -- so as many lie in a block as blocks take the place of
+  pub covered_many : ((p : Position) → IsAmong v.tables p → p.base % pages_of_table f p.level ≡ 0) → length (covered f v x) ≡ length (replaced f v (tiles f x))
+  covered_many aligned = ap length (filters_alike (lies_in_any f (tiles f x)) (is_replaced f (tiles f x)) v.tables (λ p m. same_test p (aligned p m)))
 
   -- the tables after are those of the book machine
   pub tables_after : (blocks : List Block) (tables : List Position) → f.start ≤ v.levels → v.levels ≤ f.levels → ((p : Position) → IsAmong v.tables p → p.base % pages_of_table f p.level ≡ 0) →

@@ -27,7 +27,8 @@ use Rattle.pt_walk.proofs.Ranges.{no_table_here, range_from}
 use Rattle.pt_sweep.specs.Empties.{Unlinks, lies_below}
 use Rattle.pt_sweep.specs.EmptyRanges.{IsEmptyRange}
 use Rattle.pt_sweep.proofs.Empties.{back_unlinks, loads_unlink, unlinks_as, unlinks_on}
-use Rattle.pt_sweep.proofs.EmptyTables.{below_is, below_tells, empty_kept, empty_loads, empty_part}
+use Rattle.pt_sweep.proofs.GoneTables.{below_is, below_tells}
+use Rattle.pt_sweep.proofs.EmptyTables.{empty_kept, empty_loads, empty_part}
 use Rattle.pt_map.specs.Replaced.{HasNoneReplaced, MayMakeWay, UnlinksReplaced, is_replaced}
 use Rattle.pt_map.specs.Stands.{IsEntryExtent, IsExtentAt}
 use Rattle.pt_map.proofs.AbsentShown.{open_part}

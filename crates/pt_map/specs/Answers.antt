@@ -1,10 +1,11 @@
 -- What a map of a range answers, and what it does to a view.
 use Rattle.std.specs.Prelude.{◌≡◌, ◌⊎◌, ℕ, ◌+◌, ◌-◌, ◌/◌, ◌^◌, ◌<◌, ◌≤◌, not, nat_lt, false, List, ◌++◌, length, filter, map, min, Option, Some, None, Result, Ok, Err}
+use Rattle.std.specs.List.{list_any}
 use Rattle.pt_model.specs.declared.block.Block.{Block}
 use Rattle.pt_model.specs.declared.block.Prot.{Prot}
 use Rattle.pt_model.specs.declared.position.Position.{Position}
-use Rattle.pt_model.specs.Layout.{Layout}
-use Rattle.pt_model.specs.Book.{Book, MapRefusal, Misaligned, OutsideLease, OutputRange, Occupied, mapped, missing}
+use Rattle.pt_model.specs.Layout.{Layout, end_of}
+use Rattle.pt_model.specs.Book.{Book, MapRefusal, Misaligned, OutsideLease, OutputRange, Occupied, mapped, missing, table_lies_in}
 use Rattle.pt_model.specs.Pages.{page_under}
 use Rattle.pt_model.specs.Sets.{IsAmong, places}
 use Rattle.pt_tile.specs.declared.extent.Extent.{Extent}
@@ -56,9 +57,13 @@ pub record FindsAbsent (f : Layout) (tells : Type 0) (v w : View) (blocks : List
   pub few : absent ≤ length (unknown f v blocks x)
   pub shown : tells → (facts : List Absence) × (w.absent ≡ v.absent ++ facts) × (absent ≤ length (filter (is_shown f facts) (unknown f v blocks x)))
 
+-- the tables of the book that lie in a block of an extent's tiling, which the book machine takes away
+abbrev pub covered : Layout → View → Extent → List Position
+covered f v x = filter (λ p. list_any (λ b. table_lies_in f b.first (end_of b) p) (tiles f x)) v.tables
+
 -- The frames of a map: those that it drew, no more than the purse lacked for the absent tables, are in front of the old
--- purse, and before them those of the tables that its blocks take the place of; those that it linked are gone from the
--- front, and each of these is for a position that the book lacked and the view didn't know.
+-- purse, and before them those of the tables that its blocks take the place of, one for each; those that it linked are gone from the
+-- front, no more than were absent, and each of these is for a position that the book lacked and the view didn't know.
 pub record Frames (f : Layout) (tells : Type 0) (v w : View) (blocks : List Block) (x : Extent) : Type 0 where
   pub absent : ℕ
   pub found : FindsAbsent f tells v w blocks x absent
@@ -66,7 +71,9 @@ pub record Frames (f : Layout) (tells : Type 0) (v w : View) (blocks : List Bloc
   pub drawn : List ℕ
   pub linked : List ℕ
   pub purse : freed ++ (drawn ++ v.purse) ≡ linked ++ w.purse
+  pub back : length (covered f v x) ≤ length freed
   pub few : length linked ≤ length (unknown f v blocks x)
+  pub within : length linked ≤ absent
   pub spared : length drawn ≤ absent - length v.purse
 
 -- what was met comes after what was met before: what loads showed to be absent, and the frames found not free

@@ -76,7 +76,8 @@ pub record MappedBeyond (f : Layout) (tells alone : Type 0) (linked : ℕ) (v w 
   pub drawn : List ℕ
   pub used : List ℕ
   pub purse : freed ++ (drawn ++ v.purse) ≡ used ++ w.purse
-  pub back : alone → length freed ≡ length (replaced f v (tiles f x))
+  pub back : length (replaced f v (tiles f x)) ≤ length freed
+  pub only : alone → length freed ≡ length (replaced f v (tiles f x))
   pub spared : length drawn ≤ (length absent + length (past_root f v.levels root x)) - length v.purse
   pub few : length used ≤ length absent + length (past_root f v.levels root x)
   pub capped : length absent + length (past_root f v.levels root x) ≤ v.frames

@@ -1,25 +1,19 @@
 -- The call that clears a run of entries: at each of them a piece stands, and is cleared, or none does.
-use Rattle.std.proofs.Common.{◌≡◌, ℕ, zero, suc, Bool, true, false, ◌+◌, ◌-◌, ◌*◌, ◌^◌, ◌<◌, ◌≤◌, List, [], ◌∷◌, length, refl, ap, sym, ◌∙◌, subst, arith, length-append, eq-eqb, ⊎_elim}
-use Rattle.std.specs.Prelude.{IsTrue, ◌==◌, ◌&&◌, filter, if◌then◌else◌, not, nat_le, nat_lt, slice_index, slice_set}
-use Rattle.std.proofs.lemmas.Bool.{and_from, and_parts, cases_Bool, leb-true, lt-ltb, ne_eqb}
+use Rattle.std.proofs.Common.{◌≡◌, ℕ, zero, suc, Bool, ◌+◌, ◌-◌, ◌*◌, ◌^◌, ◌<◌, ◌≤◌, List, length, refl, ap, sym, ◌∙◌, subst, arith, length-append, eq-eqb}
+use Rattle.std.specs.Prelude.{◌==◌, not, slice_index, slice_set}
+use Rattle.std.proofs.lemmas.Bool.{ne_eqb}
 use Rattle.std.proofs.lemmas.List.{set-get_or}
 use Rattle.pt_model.specs.declared.position.Position.{Position}
 use Rattle.pt_model.specs.Layout.{Layout}
 use Rattle.pt_model.specs.Sets.{one_if}
-use Rattle.pt_model.specs.Tables.{is_same}
 use Rattle.pt_model.specs.Words.{entry_of, entry_place}
-use Rattle.pt_model.proofs.Positions.{filter_in, filter_out}
-use Rattle.pt_model.proofs.Quotients.{entry_some}
 use Rattle.pt_view.specs.declared.view.View.{View}
-use Rattle.pt_view.specs.declared.view.Piece.{Piece}
-use Rattle.pt_view.specs.Pieces.{number_of, table_of}
-use Rattle.pt_view.specs.Views.{SameRange}
-use Rattle.pt_view.specs.Calls.{IsCleared, IsEntryAt, MayClear, MeetsEntry, drop_at, entry_end, entry_first, is_in_span, lowest, meets_span, pieces_at, span_end}
-use Rattle.pt_view.specs.Runs.{IsClearedRun, MayClearRun, drop_run, keep_at, keep_run, stands_outside}
+use Rattle.pt_view.specs.Calls.{IsCleared, IsEntryAt, MayClear, MeetsEntry, drop_at, lowest, pieces_at}
+use Rattle.pt_view.specs.Runs.{IsClearedRun, MayClearRun, drop_run, keep_at, keep_run}
 use Rattle.pt_view.proofs.Stays.{range_here}
 use Rattle.pt_rule.specs.Kinds.{EntryTells, zero as tells_zero, own as tells_own, pointer as tells_pointer, look}
 use Rattle.pt_rule.proofs.PieceFacts.{word_some}
-use Rattle.pt_rule.proofs.PieceRuns.{drop_none, filter_twice, inside_meets, keep_length}
+use Rattle.pt_rule.proofs.PieceRuns.{drop_no_run, drop_none, drop_run_more, inside_meets, keep_length}
 use Rattle.pt_plain.specs.Owner.{Fields, IsOwner, nonzero_in, set_run, span_view, whole_view}
 use Rattle.pt_plain.proofs.EntryCalls as entry
 use Rattle.pt_plain.proofs.Laws.{Laws}
@@ -53,11 +47,7 @@ module _ {f : Layout} (laws : Laws f) {o : Fields} (own : IsOwner f o) {first co
     pub pieces : (to i).pieces ≡ drop_run f p first i v.pieces
 
   begun : Cleared 0
-  begun = record { owner = own; keeps = keeps_here v; pieces = sym (drops_none v.pieces) }
-    where
-      drops_none : (xs : List Piece) → drop_run f p first 0 xs ≡ xs
-      drops_none [] = refl
-      drops_none (x ∷ xs) = ap (λ (ys : List Piece). x ∷ ys) (drops_none xs)
+  begun = record { owner = own; keeps = keeps_here v; pieces = sym (drop_no_run f p first v.pieces) }
 
   -- One entry more.
   module _ (i : ℕ) (less : i < count) (c : Cleared i) where
@@ -119,7 +109,7 @@ module _ {f : Layout} (laws : Laws f) {o : Fields} (own : IsOwner f o) {first co
     more = record {
       owner = one.owner;
       keeps = keeps_on c.keeps one.keeps;
-      pieces = one.pieces ∙ ap (drop_at f p (first + i)) c.pieces ∙ filter_twice (stands_outside f p first i) (λ x. pieces_at f p (first + i) (x ∷ []) == 0) v.pieces;
+      pieces = one.pieces ∙ ap (drop_at f p (first + i)) c.pieces ∙ sym (drop_run_more f p first i v.pieces);
     }
 
   all_to : (i : ℕ) → i ≤ count → Cleared i

@@ -9,7 +9,6 @@ mod ReadBack
 mod Steps
 mod Carried
 -- The calls, and a new space.
-mod Stored
 mod RunWords
 mod PathCalls
 mod TagCalls
@@ -19,4 +18,4 @@ mod GrowCalls
 mod RunLooks
 mod RunCalls
 mod ClearRunCalls
-mod NewWords
+mod Opens

@@ -1,10 +1,7 @@
 -- The call that stores a run of entries: it is so many writes.
-use Rattle.std.proofs.Common.{◌≡◌, ◌≢◌, ℕ, zero, suc, false, ◌+◌, ◌-◌, ◌*◌, ◌^◌, ◌<◌, ◌≤◌, List, [], ◌∷◌, ◌++◌, length, refl, ap, sym, ◌∙◌, subst, arith, length-set, max}
-use Rattle.std.specs.Prelude.{◌==◌, slice_index, slice_set}
-use Rattle.std.proofs.lemmas.List.FromFn.{map-range_with_len_more}
+use Rattle.std.proofs.Common.{◌≡◌, ℕ, zero, suc, ◌+◌, ◌-◌, ◌*◌, ◌^◌, ◌<◌, ◌≤◌, List, [], ◌∷◌, ◌++◌, length, refl, ap, sym, ◌∙◌, subst, arith, length-set, max}
+use Rattle.std.specs.Prelude.{slice_index, slice_set}
 use Rattle.std.proofs.lemmas.List.Sums.{fold-append}
-use Rattle.std.proofs.lemmas.Bool.{ne_eqb}
-use Rattle.std.proofs.Math.Bool.{and-false}
 use Rattle.pt_model.specs.declared.position.Position.{Position}
 use Rattle.pt_model.specs.Layout.{Layout, end_of}
 use Rattle.pt_model.specs.Tables.{add_positions, least_top}
@@ -13,11 +10,10 @@ use Rattle.pt_view.specs.declared.view.View.{View}
 use Rattle.pt_view.specs.declared.view.Piece.{Piece}
 use Rattle.pt_model.specs.Sets.{IsAmong, SamePositions}
 use Rattle.pt_view.specs.Lists.{SameFrames}
-use Rattle.pt_view.specs.Pieces.{add_piece, add_pieces, pieces_by, number_of, word_of}
+use Rattle.pt_view.specs.Pieces.{add_piece, add_pieces, pieces_by, word_of}
 use Rattle.pt_view.specs.Views.{SamePurse, SameRange}
 use Rattle.pt_view.specs.Calls.{ArePieces, IsWritten, IsWrittenRun, MayPut, MayWriteRun, lowest, off_spine, pieces_at, top_over}
-use Rattle.pt_view.proofs.Pieces.{one_here}
-use Rattle.pt_rule.proofs.PieceFacts.{pieces_with}
+use Rattle.pt_rule.proofs.PieceRuns.{added_more, elsewhere, none_added, pieces_more}
 use Rattle.pt_plain.specs.Owner.{Fields, IsOwner, set_run, span_view, whole_view}
 use Rattle.pt_plain.proofs.EntryCalls as entry
 use Rattle.pt_plain.proofs.Laws.{Laws}
@@ -64,16 +60,6 @@ run_length words place zero word step = refl
 run_length words place (suc count) word step =
     length-set (set_run words place count word step) (place + count) (word + count * step) ∙ run_length words place count word step
 
--- no piece at another number stands at this one
-elsewhere : (f : Layout) (p q : Position) (i j : ℕ) (x : Piece) → i ≢ j → pieces_at f p i (x ∷ []) ≡ 1 → pieces_at f q j (x ∷ []) ≡ 0
-elsewhere f p q i j x differ here =
-    let at : number_of f x ≡ i = (one_here f p i x here).1 in
-    let other : (number_of f x == j) ≡ false = ne_eqb (number_of f x) j (λ e. differ (sym at ∙ e)) in
-    not_here other
-  where
-    not_here : (number_of f x == j) ≡ false → pieces_at f q j (x ∷ []) ≡ 0
-    not_here other = rw (other, and-false) refl
-
 -- a top that reaches over each block stays
 top_stays : (f : Layout) (levels top : ℕ) (xs : List Piece) → top_over f levels top xs ≡ top → (x : Piece) → max top (least_top f levels (end_of x.block)) ≡ top →
     top_over f levels top (xs ++ x ∷ []) ≡ top
@@ -104,21 +90,10 @@ module _ {f : Layout} (laws : Laws f) {o : Fields} (own : IsOwner f o) {first co
     pub pieces : (to i).pieces ≡ add_pieces f v.pieces (pieces_by piece i)
     pub top : top_over f v.levels v.top (pieces_by piece i) ≡ v.top
 
-  one_more : (i : ℕ) → pieces_by piece (suc i) ≡ pieces_by piece i ++ piece i ∷ []
-  one_more i = ap (λ (k : ℕ). pieces_by piece k) (let e : suc i ≡ i + 1 = omega arith in e) ∙ map-range_with_len_more piece 0 i i (let z : 0 + i ≡ i = omega arith in z)
-
   -- no piece of those before stands at an entry
   none_before : (p : Position) (at i : ℕ) → i ≤ at → at < count → pieces_at f p (first + at) (add_pieces f v.pieces (pieces_by piece i)) ≡ pieces_at f p (first + at) v.pieces
-  none_before p at zero less within = refl
-  none_before p at (suc i) less within =
-      let x : Piece = piece i in
-      let here = (are.may i (omega arith)).here in
-      let none : pieces_at f p (first + at) (x ∷ []) ≡ 0 = elsewhere f (are.may i (omega arith)).position p (first + i) (first + at) x (λ e. omega arith) here in
-      let rest = none_before p at i (omega arith) within in
-      ap (λ (xs : List Piece). pieces_at f p (first + at) (add_pieces f v.pieces xs)) (one_more i)
-      ∙ ap (λ (xs : List Piece). pieces_at f p (first + at) xs) (fold-append (add_piece f) v.pieces (pieces_by piece i) (x ∷ []))
-      ∙ pieces_with f p (first + at) (add_pieces f v.pieces (pieces_by piece i)) x
-      ∙ omega arith
+  none_before p at i less within = none_added f p (first + at) v.pieces piece i
+      (λ j before. let may = are.may j (omega arith) in elsewhere f may.position p (first + j) (first + at) (piece j) (λ e. omega arith) may.here)
 
   -- what may be put before the writes may be put after those before it
   may_after : (i : ℕ) → i < count → Written i → MayPut f (to i) (first + i) (piece i)
@@ -179,9 +154,8 @@ module _ {f : Layout} (laws : Laws f) {o : Fields} (own : IsOwner f o) {first co
             tables = wrote.1;
             top = wrote.2;
           });
-          pieces = r.pieces (piece i) refl may ∙ ap (λ (xs : List Piece). add_piece f xs (piece i)) w.pieces
-              ∙ sym (fold-append (add_piece f) v.pieces (pieces_by piece i) (piece i ∷ [])) ∙ ap (add_pieces f v.pieces) (sym (one_more i));
-          top = ap (top_over f v.levels v.top) (one_more i) ∙ top_stays f v.levels v.top (pieces_by piece i) w.top (piece i) reaches;
+          pieces = r.pieces (piece i) refl may ∙ ap (λ (xs : List Piece). add_piece f xs (piece i)) w.pieces ∙ sym (added_more f v.pieces piece i);
+          top = ap (top_over f v.levels v.top) (pieces_more piece i) ∙ top_stays f v.levels v.top (pieces_by piece i) w.top (piece i) reaches;
         }
 
   all_to : (i : ℕ) → i ≤ count → Written i

@@ -1,2 +1,1 @@
 pub mod Owner
-pub mod Chains

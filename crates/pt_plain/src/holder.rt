@@ -5,12 +5,13 @@ ghost use Rattle.pt_view.specs.Calls.{IsFreed};
 
 use crate::plain::Plain;
 use crate::words::{
-    entry, frame_address, frame_named, held_word, is_zero_run, next_in, placed_word, root_frame,
-    root_level, set_entry, set_root, set_run, set_tag, tag_of, taken_upto, zero_run,
+    entry, is_zero_run, root_frame, root_level, set_entry, set_root, set_run, tag_of, taken_upto,
+    zero_run,
 };
 use pt_format::Format;
 use pt_num::Span;
 use pt_view::{Holder, Seen, Won};
+use pt_words::{frame_address, frame_named, held_word, next_in, placed_word, set_tag};
 
 impl<F: Format> Plain<F> {
     /// Frees the first frame of the purse.

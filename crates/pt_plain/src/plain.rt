@@ -4,15 +4,13 @@ ghost use Rattle.std.specs.Prelude.{◌≡◌, ℕ, ◌+◌, ◌^◌, ◌<◌, �
 ghost use Rattle.pt_model.specs.Layout.{input_pages};
 ghost use Rattle.pt_model.specs.Words.{frame_limit, tag};
 ghost use Rattle.pt_rule.specs.Lawful.{Lawful};
-ghost use Rattle.pt_rule.specs.Tags.{first_or};
-ghost use Rattle.pt_rule.specs.Opening.{IsNew, counting};
+ghost use Rattle.pt_rule.specs.Opening.{IsNew};
 ghost use Rattle.pt_plain.specs.Owner.{IsOpened, none_aside};
 ghost use Rattle.pt_view.specs.Views.{Rests};
-ghost use Rattle.pt_plain.specs.Chains.{IsChain, IsKept};
 
-use crate::words::{held_word, placed_word, set_tag, word_count};
 use pt_format::Format;
 use pt_num::Memory;
+use pt_words::{first_frame, new_words};
 use std::alloc::Global;
 use std::marker::{Model, PhantomData};
 
@@ -48,28 +46,6 @@ impl<F: Format> Model for Plain<F> {
         IsOwner F.layout (whole_fields F.layout p.words.items p.frames p.levels p.head p.held p.path p.level p.prepared p.taken_below) };
 }
 
-/// Chains the frames from 1 to `hold`: the tag of each names the next one, and the last one's names none.
-fn chain_frames(words: &mut [u64], hold: u32)
-    requires { 1 + hold < length words.old }
-    ensures chain { IsChain words.new hold }
-    ensures kept { IsKept words.old words.new (hold + 2) }
-{
-    if hold == 0 {
-        return;
-    }
-    for frame in 1..hold {
-        set_tag(words, frame, held_word(Some(frame + 1)));
-    }
-    set_tag(words, hold, held_word(None));
-}
-
-/// The first frame of the purse of a new space.
-fn first_frame(hold: u32) -> Option<u32>
-    ensures { result ≡ first_or None (counting 1 hold) }
-{
-    if hold == 0 { None } else { Some(1) }
-}
-
 impl<F: Format> Plain<F> {
     /// A new space of so many frames, which maps nothing. Frame 0 is the root's table, the frames from 1 to
     /// `hold` are in the purse, and the others are free. `Memory` where there is none for its words.
@@ -83,11 +59,7 @@ impl<F: Format> Plain<F> {
         ensures opened { IfOk result (λ p. IsOpened F.layout frames levels hold p.view) }
         ensures aside { IfOk result (λ p. p.aside ≡ none_aside) }
     {
-        let mut words = Vec::new(alloc);
-        words.resize(word_count::<F>(frames), 0)?;
-        words[0] = u64::from(levels - 1);
-        words[1] = placed_word(levels - 1, 0);
-        chain_frames(&mut words, hold);
+        let words = new_words::<F>(alloc, frames, levels, hold)?;
         Ok(Plain {
             words,
             frames,

@@ -1,51 +1,12 @@
-//! The words of a space: where they stand, and how a tag, a pointer and an entry are read and written.
+//! The words of one owner: how the root's word, a tag, and entries, one or a run of them, are read and written.
 
 ghost use Rattle.std.specs.Prelude.{◌≡◌, ℕ, ◌+◌, ◌*◌, ◌/◌, ◌%◌, ◌^◌, false, ◌<◌, ◌≤◌, IsTrue, length, Option, Some, None, slice_set};
 ghost use Rattle.pt_model.specs.Words as words_are;
 ghost use Rattle.pt_model.specs.Words.{frame_limit, tag, entry_of};
-ghost use Rattle.pt_format.specs.Words.{IsTableAddress};
-ghost use Rattle.pt_rule.specs.Tags as tags;
 ghost use Rattle.pt_plain.specs.Owner as owner;
 
 use pt_format::Format;
-
-/// The byte at which the first frame begins.
-const FIRST_FRAME: u64 = 1 << 32;
-
-/// The number of words of a space of so many frames.
-pub(crate) fn word_count<F: Format>(frames: u32) -> usize
-    requires { frames ≤ frame_limit F.layout }
-    ensures { result ≡ words_are.word_count F.layout frames }
-{
-    let frames = frames as usize;
-    1 + frames + (frames << F::INDEX)
-}
-
-/// The word that is an entry of a frame.
-fn entry_place<F: Format>(frames: u32, frame: u32, number: u32) -> usize
-    requires few { frames ≤ frame_limit F.layout }
-    requires a_frame { frame < frames }
-    requires an_entry { number < 2 ^ F.layout.index }
-    ensures place { result ≡ words_are.entry_place F.layout frames frame number }
-    ensures within { result < words_are.word_count F.layout frames }
-{
-    1 + frames as usize + ((frame as usize) << F::INDEX) + number as usize
-}
-
-pub(crate) fn frame_address<F: Format>(frame: u32) -> u64
-    requires { frame < frame_limit F.layout }
-    ensures address { result ≡ words_are.frame_address F.layout frame }
-    ensures a_frame { IsTableAddress F.layout result }
-{
-    FIRST_FRAME + (u64::from(frame) << F::GRANULE)
-}
-
-pub(crate) fn frame_named<F: Format>(address: u64) -> u32
-    requires { IsTableAddress F.layout address }
-    ensures { result ≡ words_are.frame_named F.layout address }
-{
-    (address - FIRST_FRAME) as u32 >> F::GRANULE
-}
+use pt_words::{entry_place, root_word};
 
 /// The frame that the root's word names.
 pub(crate) fn root_frame(root: u64) -> u32
@@ -72,7 +33,7 @@ pub(crate) fn set_root(words: &mut [u64], frame: u32, level: u32)
     requires some { 0 < length words.old }
     ensures { words.new ≡ slice_set words.old 0 (words_are.root_word frame level) }
 {
-    words[0] = u64::from(frame) * 8 + u64::from(level);
+    words[0] = root_word(frame, level);
 }
 
 /// The tag of a frame.
@@ -81,13 +42,6 @@ pub(crate) fn tag_of(words: &[u64], frame: u32) -> u64
     ensures { result ≡ tag words.now frame }
 {
     words[1 + frame as usize]
-}
-
-pub(crate) fn set_tag(words: &mut [u64], frame: u32, word: u64)
-    requires { 1 + frame < length words.old }
-    ensures { words.new ≡ slice_set words.old (1 + frame) word }
-{
-    words[1 + frame as usize] = word;
 }
 
 /// An entry of a frame.
@@ -198,35 +152,4 @@ pub(crate) fn taken_upto(number: u32, frame: u32) -> u32
     ensures { result ≡ owner.taken_upto number frame }
 {
     if frame == number { frame + 1 } else { number }
-}
-
-/// The tag of a frame that is placed as the table at a position.
-pub(crate) fn placed_word(level: u32, base: u64) -> u64
-    requires low { level < 8 }
-    requires few { base ≤ 2 ^ 52 }
-    ensures { result ≡ words_are.placed_word (record { level = level; base = base }) }
-{
-    2 + 4 * u64::from(level) + 32 * base
-}
-
-/// The tag of a held frame, by the frame that comes next in its purse.
-pub(crate) fn held_word(next: Option<u32>) -> u64
-    ensures { result ≡ tags.held_word next }
-{
-    match next {
-        None => 1,
-        Some(frame) => 1 + 4 * (u64::from(frame) + 1),
-    }
-}
-
-/// The frame that a held frame's tag names as the next one.
-pub(crate) fn next_in(tag: u64) -> Option<u32>
-    requires { (next : Option ℕ) × (tag ≡ tags.held_word next) × tags.IsEnd (2 ^ 32) next }
-    ensures { (next : Option ℕ) → tag ≡ tags.held_word next → result ≡ next }
-{
-    if tag == 1 {
-        None
-    } else {
-        Some((tag / 4 - 1) as u32)
-    }
 }

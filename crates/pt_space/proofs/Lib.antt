@@ -8,9 +8,11 @@ pub mod Purses
 pub mod Installs
 pub mod Writing
 pub mod Unlinks
+pub mod Growths
 pub mod Looks
+pub mod WriteRuns
+pub mod ClearRuns
 pub mod Marks
 pub mod Parts
+pub mod PartBooks
 pub mod Opens
-pub mod NewWords
-pub mod Stored

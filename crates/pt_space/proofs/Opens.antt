@@ -1,5 +1,5 @@
 -- The fields of a new space's pass show its view.
-use Rattle.std.proofs.Common.{◌≡◌, ℕ, zero, suc, ◌+◌, ◌-◌, ◌<◌, ◌≤◌, List, [], ◌∷◌, length, refl, sym, subst, arith}
+use Rattle.std.proofs.Common.{◌≡◌, ℕ, ◌-◌, ◌<◌, ◌≤◌, List, [], ◌∷◌, refl, sym, subst, arith}
 use Rattle.std.specs.Prelude.{Option, None}
 use Rattle.std.proofs.lemmas.Nat.{pow_pos}
 use Rattle.pt_model.specs.Layout.{Layout, input_pages}
@@ -10,11 +10,8 @@ use Rattle.pt_rule.specs.Lawful.{Lawful}
 use Rattle.pt_rule.specs.Opening.{counting, opening_view}
 use Rattle.pt_rule.specs.Tags.{first_or}
 use Rattle.pt_rule.proofs.Laws.{views_hold}
+use Rattle.pt_words.proofs.NewWords.{counting_length}
 use Rattle.pt_space.specs.Standing.{Shows}
-
-counting_length : (from count : ℕ) → length (counting from count) ≡ count
-counting_length from zero = refl
-counting_length from (suc count) = let rest = counting_length (from + 1) count in omega arith
 
 pub opening_shows : {f : Layout} (good : IsLayout f) {n l hold : ℕ} {words : List ℕ} → n ≤ frame_limit f → hold < n → f.start ≤ l → l ≤ f.levels →
     Lawful f n l words (opening_view f n l hold ∷ []) → (w : View) → w ≡ opening_view f n l hold → (count : ℕ) (head : Option ℕ) → count ≡ input_pages f → head ≡ first_or None (counting 1 hold) →

@@ -116,3 +116,7 @@ may_next {w = w} holds may word place within puts puts_is = record {
 -- a space has at most 2 ^ 52 pages
 pub pages_few : (f : Layout) → IsLayout f → input_pages f ≤ 2 ^ 52
 pages_few f good = let bits : f.input - f.granule ≤ 52 = (let a = good.pages_high in omega arith) in pow_mono bits
+
+-- a table has at most 2 ^ 31 entries
+pub entries_few : (f : Layout) → IsLayout f → 2 ^ f.index ≤ 2 ^ 31
+entries_few f good = let bits : f.index ≤ 31 = (let a = good.index_is in let b = good.granule_high in omega arith) in pow_mono bits

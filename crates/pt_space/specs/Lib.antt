@@ -1,3 +1,3 @@
-pub mod Chains
 pub mod Standing
 pub mod Cuts
+pub mod Books

@@ -12,10 +12,10 @@ ghost use Rattle.pt_space.specs.Cuts.{last_of};
 
 use crate::space::Space;
 use crate::step::{At, load, store};
-use crate::words::{held_word, next_in};
 use atomic_table::{Join, Play, Seat, Split};
 use pt_format::Format;
 use pt_view::View;
+use pt_words::{held_word, next_in};
 use std::marker::{Brand, PhantomData};
 
 /// Where a view is cut: the page, and the frames of the left part.

@@ -1,26 +1,22 @@
 //! The calls of a holder, by single steps of the shared words.
 
-ghost use Rattle.std.specs.Prelude.{◌≡◌, ℕ, ◌+◌, ◌<◌, ◌≤◌, length, [], ◌∷◌, None};
+ghost use Rattle.std.specs.Prelude.{◌≡◌, ℕ, ◌<◌, length, [], ◌∷◌};
 ghost use Rattle.pt_model.specs.declared.position.Position.{Position};
-ghost use Rattle.pt_model.specs.Layout.{input_pages};
-ghost use Rattle.pt_model.specs.Tables.{IsPosition};
 ghost use Rattle.pt_model.specs.Words as words_are;
-ghost use Rattle.pt_view.specs.Views.{IsLawfulAtRest, Rests};
-ghost use Rattle.pt_view.specs.Calls.{IsEntryAt, MeetsEntry, Rooted, Went, left};
-ghost use Rattle.pt_view.specs.Calls.{InstallFinds, IsCleared, IsInstalled, IsUnlinked, IsWritten, MayClear, MayInstall, MayUnlink, MayWrite, UnlinkFinds};
-ghost use Rattle.pt_view.specs.Calls.{IsFreed, IsPlaced, IsPrepared, IsReleased, IsTaken, IsUnplaced};
-ghost use Rattle.pt_view.specs.Calls.{FillsSpace, FitsSpace, HasEveryFrame, HasFramesBelow};
-ghost use Rattle.pt_view.specs.Runs.{LooksAtRun, MeetsRun};
+ghost use Rattle.pt_view.specs.Calls.{IsEntryAt, IsFreed};
 ghost use Rattle.pt_rule.specs.Kinds.{IsLowestIn};
-ghost use Rattle.pt_rule.specs.Meets.{Always, IsWhole};
-ghost use Rattle.pt_space.specs.Standing.{StaysIn, none_aside};
+ghost use Rattle.pt_rule.specs.Meets.{Always};
+ghost use Rattle.pt_space.specs.Standing.{StaysIn};
 
 use crate::lease::Lease;
+use crate::space::Space;
 use crate::step::{At, exchange, load, store, store_piece, store_zero};
-use crate::words::{entry_place, frame_address, frame_named, held_word, next_in, placed_word};
 use pt_format::Format;
 use pt_num::Span;
-use pt_view::{Seen, Won};
+use pt_view::{Holder, Seen, Won};
+use pt_words::{
+    entry_place, frame_address, frame_named, held_word, next_in, placed_word, root_word,
+};
 use std::marker::Brand;
 
 impl<'a, F: Format> Lease<'a, F> {
@@ -36,12 +32,45 @@ impl<'a, F: Format> Lease<'a, F> {
         (frame, entry_place::<F>(space.frames, frame, number))
     }
 
-    /// Loads the root and goes to its table. Answers the root's level.
-    pub fn root(&mut self) -> u32
-        requires { self.old.view.path ≡ [] }
+    /// Frees the first frame of the purse.
+    fn free_first(&mut self)
+        requires { 0 < length self.old.view.purse }
         ensures stays { StaysIn F.layout self.old self.new }
-        ensures rooted { Rooted F.layout Always (IsWhole F.layout self.old.view) self.old.view result self.new.view }
+        ensures freed { (frame : ℕ) × IsFreed Always (frame ∷ []) self.old.view self.new.view }
     {
+        let Some(frame) = self.head else {
+            unreachable!()
+        };
+        let at = At {
+            depth: self.depth,
+            frame,
+            number: 0,
+        };
+        let tag = load::<F, Brand>(self.space, &mut self.seat, at, 1 + frame as usize);
+        let next = next_in(tag);
+        store::<F, Brand>(self.space, &mut self.seat, at, 1 + frame as usize, 0);
+        self.head = next;
+        self.held -= 1;
+    }
+}
+
+impl<'a, F: Format> Holder<F> for Lease<'a, F> {
+    ghost use Rattle.pt_rule.specs.Meets.{Always, IsWhole};
+    ghost use Rattle.pt_space.specs.Standing.{none_aside};
+
+    type Space = Space<F>;
+
+    ghost space = { λ s. s.space };
+
+    ghost view = { λ s. s.view };
+
+    ghost aside = { λ s. none_aside };
+
+    ghost tells = { Always };
+
+    ghost alone = { λ s. IsWhole F.layout s.view };
+
+    fn root(&mut self) -> u32 {
         let at = At {
             depth: self.depth,
             frame: 0,
@@ -55,12 +84,7 @@ impl<'a, F: Format> Lease<'a, F> {
         level
     }
 
-    /// Loads an entry of the path's last table, and goes into the table that it names, if it does.
-    pub fn enter(&mut self, number: u32) -> Seen
-        requires { MeetsEntry F.layout self.old.view number }
-        ensures stays { StaysIn F.layout self.old self.new }
-        ensures went { Went F.layout Always (IsWhole F.layout self.old.view) number self.old.view result self.new.view }
-    {
+    fn enter(&mut self, number: u32) -> Seen {
         let depth = self.depth;
         let level = self.level;
         let (frame, place) = self.entry(number);
@@ -82,13 +106,7 @@ impl<'a, F: Format> Lease<'a, F> {
         Seen::Entered
     }
 
-    /// Loads `count` entries of the path's last table, from number `first` on. True only where each was zero. Others
-    /// see the loads one by one.
-    pub fn empty_run(&mut self, first: u32, count: u32) -> bool
-        requires { MeetsRun F.layout self.old.view first count }
-        ensures stays { StaysIn F.layout self.old self.new }
-        ensures looks { LooksAtRun F.layout Always first count self.old.view result self.new.view }
-    {
+    fn empty_run(&mut self, first: u32, count: u32) -> bool {
         for i in 0..count {
             match self.enter(first + i) {
                 Seen::Empty => {}
@@ -102,24 +120,46 @@ impl<'a, F: Format> Lease<'a, F> {
         true
     }
 
-    /// Leaves the path's last table. Makes no step.
-    pub fn leave(&mut self)
-        requires { 0 < length self.old.view.path }
-        ensures stays { StaysIn F.layout self.old self.new }
-        ensures left { self.new.view ≡ left self.old.view }
-    {
+    fn leave(&mut self) {
         self.depth -= 1;
         self.level += 1;
     }
 
-    /// Links the prepared frame at an entry of the path's last table, where no other table is linked,
-    /// and goes into the table that is linked there.
-    pub fn install(&mut self, number: u32) -> Won
-        requires { MayInstall F.layout self.old.view number }
-        ensures stays { StaysIn F.layout self.old self.new }
-        ensures installed { IsInstalled F.layout Always number self.old.view result self.new.view }
-        ensures found { InstallFinds F.layout (IsWhole F.layout self.old.view) number self.old.view result }
-    {
+    fn place(&mut self, level: u32, base: u64) {
+        let Some(frame) = self.head else {
+            unreachable!()
+        };
+        let at = At {
+            depth: self.depth,
+            frame,
+            number: 0,
+        };
+        let tag = load::<F, Brand>(self.space, &mut self.seat, at, 1 + frame as usize);
+        let next = next_in(tag);
+        let word = placed_word(level, base);
+        store::<F, Brand>(self.space, &mut self.seat, at, 1 + frame as usize, word);
+        self.head = next;
+        self.held -= 1;
+        self.prepared = Some(frame);
+    }
+
+    fn unplace(&mut self) {
+        let Some(frame) = self.prepared else {
+            unreachable!()
+        };
+        let at = At {
+            depth: self.depth,
+            frame,
+            number: 0,
+        };
+        let word = held_word(self.head);
+        store::<F, Brand>(self.space, &mut self.seat, at, 1 + frame as usize, word);
+        self.head = Some(frame);
+        self.held += 1;
+        self.prepared = None;
+    }
+
+    fn install(&mut self, number: u32) -> Won {
         let depth = self.depth;
         let level = self.level;
         let (parent, place) = self.entry(number);
@@ -146,12 +186,36 @@ impl<'a, F: Format> Lease<'a, F> {
         Won::Yes
     }
 
-    /// Writes a word of a block into an entry of the path's last table.
-    pub fn write(&mut self, number: u32, word: u64)
-        requires { MayWrite F.layout self.old.view number word }
-        ensures stays { StaysIn F.layout self.old self.new }
-        ensures written { IsWritten F.layout Always number word self.old.view self.new.view }
-    {
+    fn grow(&mut self) -> Won {
+        let space = self.space;
+        let level = self.level;
+        let root = self.path[0];
+        let Some(frame) = self.prepared else {
+            unreachable!()
+        };
+        let at = At {
+            depth: self.depth,
+            frame,
+            number: 0,
+        };
+        let place = entry_place::<F>(space.frames, frame, 0);
+        let pointer = F::table_word(level + 1, frame_address::<F>(root));
+        store::<F, Brand>(space, &mut self.seat, at, place, pointer);
+        let old = root_word(root, level);
+        let new = root_word(frame, level + 1);
+        let found = exchange::<F, Brand>(space, &mut self.seat, at, 0, old, new);
+        if found == old {
+            self.path[0] = frame;
+            self.level = level + 1;
+            self.prepared = None;
+            return Won::Yes;
+        }
+        store_zero::<F, Brand>(space, &mut self.seat, at, place);
+        self.depth = 0;
+        Won::Met
+    }
+
+    fn write(&mut self, number: u32, word: u64) {
         let (frame, place) = self.entry(number);
         let at = At {
             depth: self.depth,
@@ -161,12 +225,14 @@ impl<'a, F: Format> Lease<'a, F> {
         store_piece::<F, Brand>(self.space, &mut self.seat, at, place, word);
     }
 
-    /// Clears an entry of the path's last table, at which the word of an own block stands.
-    pub fn clear(&mut self, number: u32)
-        requires { MayClear F.layout self.old.view number }
-        ensures stays { StaysIn F.layout self.old self.new }
-        ensures cleared { IsCleared F.layout Always number self.old.view self.new.view }
-    {
+    fn write_run(&mut self, first: u32, count: u32, word: u64, step: u64) {
+        let _depth = self.depth;
+        for i in 0..count {
+            self.write(first + i, word + u64::from(i) * step);
+        }
+    }
+
+    fn clear(&mut self, number: u32) {
         let (frame, place) = self.entry(number);
         let at = At {
             depth: self.depth,
@@ -176,13 +242,22 @@ impl<'a, F: Format> Lease<'a, F> {
         store_piece::<F, Brand>(self.space, &mut self.seat, at, place, 0);
     }
 
-    /// Unlinks the table at an entry of the path's last table: its frame is then the first of the purse.
-    pub fn unlink(&mut self, number: u32)
-        requires { MayUnlink F.layout self.old.view number }
-        ensures stays { StaysIn F.layout self.old self.new }
-        ensures unlinked { IsUnlinked F.layout Always number self.old.view self.new.view }
-        ensures found { UnlinkFinds F.layout (IsWhole F.layout self.old.view) number self.old.view }
-    {
+    fn clear_run(&mut self, first: u32, count: u32) -> u32 {
+        let mut cleared = 0;
+        for i in 0..count {
+            match self.enter(first + i) {
+                Seen::Empty => {}
+                Seen::Leaf(_) => {
+                    self.clear(first + i);
+                    cleared += 1;
+                }
+                Seen::Entered => unreachable!(),
+            }
+        }
+        cleared
+    }
+
+    fn unlink(&mut self, number: u32) {
         let depth = self.depth;
         let (frame, place) = self.entry(number);
         let at = At {
@@ -192,25 +267,19 @@ impl<'a, F: Format> Lease<'a, F> {
         };
         let word = load::<F, Brand>(self.space, &mut self.seat, at, place);
         let child = frame_named::<F>(F::address_of(self.level, word));
-        store_zero::<F, Brand>(self.space, &mut self.seat, at, place);
         let own = At {
             depth,
             frame: child,
             number: 0,
         };
         let tag = held_word(self.head);
+        store_zero::<F, Brand>(self.space, &mut self.seat, at, place);
         store::<F, Brand>(self.space, &mut self.seat, own, 1 + child as usize, tag);
         self.head = Some(child);
         self.held += 1;
     }
 
-    /// Tries to take a frame, which is then the first of the purse. False only where it wasn't free.
-    pub fn take(&mut self, frame: u32) -> bool
-        requires { frame < self.old.view.frames }
-        ensures stays { StaysIn F.layout self.old self.new }
-        ensures taken { IsTaken Always frame self.old.view result self.new.view }
-        ensures all { IsWhole F.layout self.old.view → HasEveryFrame self.new.view → FillsSpace self.new.view none_aside }
-    {
+    fn take(&mut self, frame: u32) -> bool {
         let at = At {
             depth: self.depth,
             frame,
@@ -233,130 +302,32 @@ impl<'a, F: Format> Lease<'a, F> {
         true
     }
 
-    /// Prepares the first frame of the purse for a position.
-    pub fn place(&mut self, level: u32, base: u64)
-        requires some { 0 < length self.old.view.purse }
-        requires none { self.old.view.prepared ≡ None }
-        requires legal { IsPosition F.layout (record { level = level; base = base }) }
-        ensures stays { StaysIn F.layout self.old self.new }
-        ensures placed { IsPlaced Always self.old.view (record { level = level; base = base }) self.new.view }
-    {
-        let Some(frame) = self.head else {
-            unreachable!()
-        };
-        let at = At {
-            depth: self.depth,
-            frame,
-            number: 0,
-        };
-        let tag = load::<F, Brand>(self.space, &mut self.seat, at, 1 + frame as usize);
-        let next = next_in(tag);
-        let word = placed_word(level, base);
-        store::<F, Brand>(self.space, &mut self.seat, at, 1 + frame as usize, word);
-        self.head = next;
-        self.held -= 1;
-        self.prepared = Some(frame);
-    }
-
-    /// Puts the prepared frame back, as the first of the purse.
-    pub fn unplace(&mut self)
-        requires { IsPrepared self.old.view }
-        ensures stays { StaysIn F.layout self.old self.new }
-        ensures unplaced { IsUnplaced Always self.old.view self.new.view }
-    {
-        let Some(frame) = self.prepared else {
-            unreachable!()
-        };
-        let at = At {
-            depth: self.depth,
-            frame,
-            number: 0,
-        };
-        let word = held_word(self.head);
-        store::<F, Brand>(self.space, &mut self.seat, at, 1 + frame as usize, word);
-        self.head = Some(frame);
-        self.held += 1;
-        self.prepared = None;
-    }
-
-    /// Frees the first frame of the purse.
-    fn free_first(&mut self)
-        requires { 0 < length self.old.view.purse }
-        ensures stays { StaysIn F.layout self.old self.new }
-        ensures freed { (frame : ℕ) × IsFreed Always (frame ∷ []) self.old.view self.new.view }
-    {
-        let Some(frame) = self.head else {
-            unreachable!()
-        };
-        let at = At {
-            depth: self.depth,
-            frame,
-            number: 0,
-        };
-        let tag = load::<F, Brand>(self.space, &mut self.seat, at, 1 + frame as usize);
-        let next = next_in(tag);
-        store::<F, Brand>(self.space, &mut self.seat, at, 1 + frame as usize, 0);
-        self.head = next;
-        self.held -= 1;
-    }
-
-    /// Frees every frame of the purse, first to last.
-    pub fn release(&mut self)
-        requires { Rests F.layout self.old.view }
-        ensures stays { StaysIn F.layout self.old self.new }
-        ensures released { IsReleased Always self.old.view self.new.view }
-    {
+    fn release(&mut self) {
         for _ in 0..self.held {
             self.free_first();
         }
     }
 
-    /// A number below which the lease knows that no frame is free: 0, since its takes are told.
-    pub fn known_taken(&self) -> u32
-        ensures taken { HasFramesBelow self.now.view result }
-        ensures told { result ≡ 0 }
-        ensures all { IsWhole F.layout self.now.view → HasEveryFrame self.now.view → FillsSpace self.now.view none_aside }
-    {
+    fn known_taken(&self) -> u32 {
         let _span = self.count;
         0
     }
 
-    /// The number of frames in the purse.
-    pub fn purse(&self) -> u32
-        ensures count { result ≡ length self.now.view.purse }
-        ensures within { result ≤ self.now.view.frames }
-        ensures few { IsWhole F.layout self.now.view → FitsSpace self.now.view none_aside }
-    {
+    fn purse(&self) -> u32 {
         self.held
     }
 
-    /// The number of frames of the space.
-    pub fn frames(&self) -> u32
-        ensures count { result ≡ self.now.view.frames }
-        ensures some { 0 < result }
-    {
+    fn frames(&self) -> u32 {
         let space = self.space;
         space.frames
     }
 
-    /// The number of levels that the space started with.
-    pub fn levels(&self) -> u32
-        ensures levels { result ≡ self.now.view.levels }
-        ensures legal { (F.layout.start ≤ result) × (result ≤ F.layout.levels) }
-    {
+    fn levels(&self) -> u32 {
         let space = self.space;
         space.levels
     }
 
-    /// The span. At rest the book over it is lawful.
-    pub fn range(&self) -> Span
-        ensures first { result.first ≡ self.now.view.first }
-        ensures count { result.count ≡ self.now.view.count }
-        ensures some { 0 < result.count }
-        ensures within { result.first + result.count ≤ input_pages F.layout }
-        ensures levels { F.layout.start ≤ self.now.view.levels }
-        ensures lawful { IsLawfulAtRest F.layout self.now.view }
-    {
+    fn range(&self) -> Span {
         Span {
             first: self.first,
             count: self.count,

@@ -3,6 +3,7 @@
 ghost use Rattle.std.specs.Prelude.{◌≡◌, ◌≢◌, ◌+◌, ◌<◌, [], None, IfOk, IfErr};
 ghost use Rattle.pt_view.specs.Views.{Rests};
 ghost use Rattle.pt_rule.specs.Cuts.{MaySplit, joined, left_part, marked, right_part};
+ghost use Rattle.pt_space.specs.Books.{JoinsBooks, SplitsBook};
 
 use crate::cut::{cut_seat, glance, join_seats, mark_end, walk};
 use crate::pass::Pass;
@@ -74,6 +75,7 @@ impl<'a, F: Format> Lease<'a, F> {
         ensures space { (result.0.space ≡ self.entry.space) × (result.1.space ≡ self.entry.space) }
         ensures left { result.0.view ≡ marked None (left_part F.layout at left_frames self.entry.view) }
         ensures right { result.1.view ≡ right_part F.layout at left_frames self.entry.view }
+        ensures books { SplitsBook F.layout at self.entry.view result.0.view result.1.view }
     {
         let Lease {
             space,
@@ -124,6 +126,7 @@ impl<'a, F: Format> Lease<'a, F> {
         requires space { right.space ≡ self.space }
         requires rest { Rests F.layout self.view × Rests F.layout right.view }
         ensures ok { IfOk result (λ l. (l.space ≡ self.entry.space) × (l.view ≡ joined self.entry.view right.entry.view)) }
+        ensures books { IfOk result (λ l. JoinsBooks F.layout self.entry.view right.entry.view l.view) }
         ensures err { IfErr result (λ r. (r ≡ (self.entry, right.entry)) × (right.entry.view.first ≢ self.entry.view.first + self.entry.view.count)) }
     {
         if self.first + self.count != right.first {

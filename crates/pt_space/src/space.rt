@@ -9,12 +9,12 @@ ghost use Rattle.pt_rule.specs.Opening.{opening_view};
 ghost use Rattle.std.specs.Slots.{slots_items, slots_len, IsFull};
 
 use crate::lease::Lease;
-use crate::opening::{first_frame, new_words};
 use crate::pass::Pass;
 use atomic_table::{Closed, Table, TableRule};
 use pt_format::Format;
 use pt_num::Memory;
 use pt_view::View;
+use pt_words::{first_frame, new_words};
 use std::alloc::Global;
 use std::marker::{Model, PhantomData};
 

@@ -28,7 +28,7 @@ use Rattle.pt_sweep.specs.Empties.{lies_below}
 use Rattle.pt_sweep.specs.Sweeps.{AreApart, CutsNone, IsBookTable, MaySweep, begins_in, end_of_piece}
 use Rattle.pt_sweep.proofs.Apart.{begins_is, begins_not, begins_tells, piece_long}
 use Rattle.pt_sweep.proofs.BlockPieces.{blocks_apart}
-use Rattle.pt_sweep.proofs.SweptTables.{below_is, below_tells}
+use Rattle.pt_sweep.proofs.GoneTables.{below_is, below_tells}
 
 -- Tables in order.
 

@@ -1,5 +1,5 @@
 -- Tables that are unlinked one after another.
-use Rattle.std.proofs.Common.{◌≡◌, ℕ, ◌+◌, Bool, false, List, [], ◌∷◌, ◌++◌, length, inl, inr, refl, ap, sym, subst, ◌∙◌, arith, append_assoc}
+use Rattle.std.proofs.Common.{◌≡◌, ℕ, Bool, false, List, [], ◌∷◌, ◌++◌, length, inl, inr, refl, ap, sym, subst, ◌∙◌, append_assoc}
 use Rattle.std.specs.Prelude.{◌||◌, not, filter}
 use Rattle.std.proofs.lemmas.Bool.{cases_Bool}
 use Rattle.pt_model.specs.declared.position.Position.{Position}
@@ -12,28 +12,7 @@ use Rattle.pt_view.specs.Calls.{all_but_last, left}
 use Rattle.pt_view.proofs.Loads.{absences_on}
 use Rattle.pt_view.proofs.Stays.{range_on}
 use Rattle.pt_sweep.specs.Empties.{Unlinks}
-
--- Filters, one after another.
-
-pub filter_twice : (p q r : Position → Bool) (ts : List Position) → ((x : Position) → IsAmong ts x → r x ≡ (p x || q x)) →
-    filter (λ x. not (q x)) (filter (λ x. not (p x)) ts) ≡ filter (λ x. not (r x)) ts
-filter_twice p q r [] h = refl
-filter_twice p q r (x ∷ xs) h =
-    let rest : filter (λ y. not (q y)) (filter (λ y. not (p y)) xs) ≡ filter (λ y. not (r y)) xs = filter_twice p q r xs (λ y m. h y (among_more y x xs m)) in
-    let here : r x ≡ (p x || q x) = h x (among_here x xs) in
-    elim (cases_Bool (p x)) [
-      | inl a ↦
-          ap (filter (λ y. not (q y))) (filter_out (λ y. not (p y)) x xs (ap not a)) ∙ rest
-          ∙ sym (filter_out (λ y. not (r y)) x xs (ap not (here ∙ ap (λ b. b || q x) a)))
-      | inr a ↦ elim (cases_Bool (q x)) [
-        | inl b ↦
-            ap (filter (λ y. not (q y))) (filter_in (λ y. not (p y)) x xs (ap not a)) ∙ filter_out (λ y. not (q y)) x (filter (λ y. not (p y)) xs) (ap not b) ∙ rest
-            ∙ sym (filter_out (λ y. not (r y)) x xs (ap not (here ∙ ap (λ c. c || q x) a ∙ b)))
-        | inr b ↦
-            ap (filter (λ y. not (q y))) (filter_in (λ y. not (p y)) x xs (ap not a)) ∙ filter_in (λ y. not (q y)) x (filter (λ y. not (p y)) xs) (ap not b)
-            ∙ ap (λ (ys : List Position). x ∷ ys) rest ∙ sym (filter_in (λ y. not (r y)) x xs (ap not (here ∙ ap (λ c. c || q x) a ∙ b)))
-      ]
-    ]
+use Rattle.pt_sweep.proofs.GoneTables.{filter_twice, frees_behind, frees_none, frees_on}
 
 -- Unlinkings, one after another.
 
@@ -51,7 +30,7 @@ module _ {f : Layout} {tells alone : Type 0} where
     busy = λ x. ((λ h. (a.busy x).0 ((b.busy x).0 h)), (λ h. (b.busy x).1 ((a.busy x).1 h)));
     known = λ x h none. b.known x (a.known x h (first x none)) (second x none);
     purse = (b.purse.0 ++ a.purse.0, b.purse.1 ∙ ap (λ (xs : List ℕ). b.purse.0 ++ xs) a.purse.1 ∙ sym (append_assoc b.purse.0 a.purse.0 u.purse));
-    count = λ h. let x = a.count h in let y = b.count (still h) in omega arith;
+    frees = frees_on still a.frees b.frees;
     taken = λ t. b.taken t ∙ a.taken t;
     stores = λ t. b.stores t ∙ a.stores t;
     absent = λ t. absences_on (a.absent t) (b.absent t);
@@ -71,7 +50,7 @@ module _ {f : Layout} {tells alone : Type 0} where
     busy = a.busy;
     known = λ x h none. a.known x h (less x none);
     purse = a.purse;
-    count = a.count;
+    frees = a.frees;
     taken = a.taken;
     stores = a.stores;
     absent = a.absent;
@@ -100,7 +79,7 @@ module _ {f : Layout} {tells alone : Type 0} where
     busy = k.busy;
     known = λ x h no. k.known x h;
     purse = ([], k.purse.purse);
-    count = λ h. let x : length w.purse ≡ length v.purse = ap length k.purse.purse in let y : length w.tables ≡ length v.tables = ap length k.book.tables in omega arith;
+    frees = frees_none (ap length k.purse.purse) (ap length k.book.tables);
     taken = k.taken;
     stores = k.stores;
     absent = k.absent;
@@ -125,11 +104,7 @@ module _ {f : Layout} {tells alone : Type 0} where
     busy = λ x. ((λ h. (k.busy x).0 ((d.busy x).0 h)), (λ h. (d.busy x).1 ((k.busy x).1 h)));
     known = λ x h none. d.known x (k.known x h) none;
     purse = (d.purse.0, d.purse.1 ∙ ap (λ (xs : List ℕ). d.purse.0 ++ xs) k.purse.purse);
-    count = λ h.
-        let x : length u.purse + length u.tables ≡ length w.purse + length w.tables = d.count (still h) in
-        let a : length w.purse ≡ length v.purse = ap length k.purse.purse in
-        let b : length w.tables ≡ length v.tables = ap length k.book.tables in
-        let g : length u.purse + length u.tables ≡ length v.purse + length v.tables = omega arith in g;
+    frees = let here = frees_behind k still d.frees in record { each = here.each; only = here.only };
     taken = λ t. d.taken t ∙ k.taken t;
     stores = λ t. d.stores t ∙ k.stores t;
     absent = λ t. let a = absences_on (k.absent t) (d.absent t) in record { facts = a.facts; are = a.are };

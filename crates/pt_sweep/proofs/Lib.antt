@@ -1,5 +1,7 @@
 -- Facts for other crates: frames that are drawn one after another.
 pub mod Drawn
+-- tables that go, and the frames that come for them
+pub mod GoneTables
 -- tables that are unlinked one after another, and those that lie in a range without pieces
 pub mod Empties
 pub mod EmptyTables

@@ -19,31 +19,8 @@ use Rattle.pt_view.proofs.Loads.{absences_on}
 use Rattle.pt_view.proofs.Stays.{range_on}
 use Rattle.pt_sweep.specs.Empties.{Unlinks}
 use Rattle.pt_sweep.specs.Sweeps.{Sweeps, pages_under}
+use Rattle.pt_sweep.proofs.GoneTables.{filter_twice, frees_behind, frees_none, frees_on}
 use Rattle.pt_sweep.proofs.Apart.{GoesOn, filter_all, filter_none, filter_same, pages_append}
-
--- Filters, one after another.
-
-pub filter_twice : (p q r : Position → Bool) (ts : List Position) → ((x : Position) → IsAmong ts x → r x ≡ (p x || q x)) →
-    filter (λ x. not (q x)) (filter (λ x. not (p x)) ts) ≡ filter (λ x. not (r x)) ts
-filter_twice p q r [] h = refl
-filter_twice p q r (x ∷ xs) h =
-    let rest : filter (λ y. not (q y)) (filter (λ y. not (p y)) xs) ≡ filter (λ y. not (r y)) xs = filter_twice p q r xs (λ y m. h y (among_more y x xs m)) in
-    let here : r x ≡ (p x || q x) = h x (among_here x xs) in
-    elim (cases_Bool (p x)) [
-      | inl a ↦
-          ap (filter (λ y. not (q y))) (filter_out (λ y. not (p y)) x xs (ap not a)) ∙ rest
-          ∙ sym (filter_out (λ y. not (r y)) x xs (ap not (here ∙ ap (λ b. b || q x) a)))
-      | inr a ↦ elim (cases_Bool (q x)) [
-        | inl b ↦
-            ap (filter (λ y. not (q y))) (filter_in (λ y. not (p y)) x xs (ap not a)) ∙ filter_out (λ y. not (q y)) x (filter (λ y. not (p y)) xs) (ap not b) ∙ rest
-            ∙ sym (filter_out (λ y. not (r y)) x xs (ap not (here ∙ ap (λ c. c || q x) a ∙ b)))
-        | inr b ↦
-            ap (filter (λ y. not (q y))) (filter_in (λ y. not (p y)) x xs (ap not a)) ∙ filter_in (λ y. not (q y)) x (filter (λ y. not (p y)) xs) (ap not b)
-            ∙ ap (λ (ys : List Position). x ∷ ys) rest ∙ sym (filter_in (λ y. not (r y)) x xs (ap not (here ∙ ap (λ c. c || q x) a ∙ b)))
-      ]
-    ]
-
--- Sweeps, one after another.
 
 module _ {f : Layout} {tells alone : Type 0} where
   pub sweeps_on : {alone' : Type 0} {u v w : View} {m n : ℕ} (p q r : Position → Bool) (a b c : Piece → Bool) → ((x : Position) → r x ≡ false → p x ≡ false) →
@@ -60,7 +37,7 @@ module _ {f : Layout} {tells alone : Type 0} where
     busy = λ x. ((λ h. (s.busy x).0 ((t.busy x).0 h)), (λ h. (t.busy x).1 ((s.busy x).1 h)));
     known = λ x h none. t.known x (s.known x h (first x none)) (second x none);
     purse = (t.purse.0 ++ s.purse.0, t.purse.1 ∙ ap (λ (xs : List ℕ). t.purse.0 ++ xs) s.purse.1 ∙ sym (append_assoc t.purse.0 s.purse.0 u.purse));
-    count = λ h. let x = s.count h in let y = t.count (still h) in omega arith;
+    frees = frees_on still s.frees t.frees;
     taken = λ h. t.taken h ∙ s.taken h;
     stores = λ h.
         t.stores h ∙ ap (λ (xs : List Change). xs ++ map Cleared (filter b v.pieces)) (s.stores h)
@@ -87,7 +64,7 @@ module _ {f : Layout} {tells alone : Type 0} where
     busy = s.busy;
     known = λ x h none. s.known x h (less x none);
     purse = s.purse;
-    count = s.count;
+    frees = s.frees;
     taken = s.taken;
     stores = λ h. s.stores h ∙ ap (λ (xs : List Piece). v.stores ++ map Cleared xs) (gone v.pieces goes);
     absent = s.absent;
@@ -126,7 +103,7 @@ module _ {f : Layout} {tells alone : Type 0} where
         busy = k.busy;
         known = λ x h no. k.known x h;
         purse = ([], k.purse.purse);
-        count = λ h. let x : length w.purse ≡ length v.purse = ap length k.purse.purse in let y : length w.tables ≡ length v.tables = ap length k.book.tables in omega arith;
+        frees = frees_none (ap length k.purse.purse) (ap length k.book.tables);
         taken = k.taken;
         stores = λ h. k.stores h ∙ sym (ap (λ (xs : List Piece). v.stores ++ map Cleared xs) gone ∙ append-nil v.stores);
         absent = k.absent;
@@ -152,11 +129,7 @@ module _ {f : Layout} {tells alone : Type 0} where
     busy = λ x. ((λ h. (k.busy x).0 ((d.busy x).0 h)), (λ h. (d.busy x).1 ((k.busy x).1 h)));
     known = λ x h none. d.known x (k.known x h) none;
     purse = (d.purse.0, d.purse.1 ∙ ap (λ (xs : List ℕ). d.purse.0 ++ xs) k.purse.purse);
-    count = λ h.
-        let x : length u.purse + length u.tables ≡ length w.purse + length w.tables = d.count (still h) in
-        let a : length w.purse ≡ length v.purse = ap length k.purse.purse in
-        let b : length w.tables ≡ length v.tables = ap length k.book.tables in
-        let g : length u.purse + length u.tables ≡ length v.purse + length v.tables = omega arith in g;
+    frees = let here = frees_behind k still d.frees in record { each = here.each; only = here.only };
     taken = λ t. d.taken t ∙ k.taken t;
     stores = λ t. d.stores t ∙ (λ i. k.stores t i ++ map Cleared (filter a (k.book.pieces i)));
     absent = λ t. let x = absences_on (k.absent t) (d.absent t) in record { facts = x.facts; are = x.are };
@@ -181,7 +154,7 @@ module _ {f : Layout} {tells alone : Type 0} where
     busy = s.busy;
     known = s.known;
     purse = s.purse;
-    count = s.count;
+    frees = s.frees;
     taken = s.taken;
     stores = λ h. s.stores h ∙ ap (λ (xs : List Piece). v.stores ++ map Cleared xs) (filter_none a v.pieces stay) ∙ append-nil v.stores;
     absent = s.absent;

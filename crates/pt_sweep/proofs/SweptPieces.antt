@@ -32,7 +32,8 @@ use Rattle.pt_walk.proofs.Ranges.{load_at}
 use Rattle.pt_sweep.specs.Empties.{lies_below}
 use Rattle.pt_sweep.specs.Sweeps.{MaySweepBelow, SweepsBelow, begins_in, end_of_piece, pages_under}
 use Rattle.pt_sweep.proofs.Apart.{begins_either, begins_is, begins_not, begins_tells, filter_same, filtered_one, only_one, piece_long, split}
-use Rattle.pt_sweep.proofs.SweptTables.{below_none, under}
+use Rattle.pt_sweep.proofs.GoneTables.{below_none, frees_none}
+use Rattle.pt_sweep.proofs.SweptTables.{under}
 
 -- at an entry one piece stands, or none
 at_most_one : (f : Layout) (p : Position) (i : ℕ) (x : Piece) → pieces_at f p i (x ∷ []) ≤ 1
@@ -156,9 +157,7 @@ module _ {f : Layout} (good : IsLayout f) {tells alone : Type 0} {v : View} {fir
         busy = λ x. ((λ i. (k.busy x).0 ((c.busy x).0 i)), (λ i. (c.busy x).1 ((k.busy x).1 i)));
         known = λ q i none. (c.known q).1 (k.known q i);
         purse = ([], c.purse.purse ∙ k.purse.purse);
-        count = λ a.
-            let p : length y.purse ≡ length v.purse = ap length (c.purse.purse ∙ k.purse.purse) in
-            let t : length y.tables ≡ length v.tables = ap length (c.tables ∙ k.book.tables) in omega arith;
+        frees = frees_none (ap length (c.purse.purse ∙ k.purse.purse)) (ap length (c.tables ∙ k.book.tables));
         taken = λ t. (c.told t).0 ∙ k.taken t;
         stores = λ t. c.stores t leaf_piece may_drop ∙ ap (λ (xs : List Change). xs ++ Cleared leaf_piece ∷ []) (k.stores t)
             ∙ ap (λ (xs : List Piece). v.stores ++ map Cleared xs) (sym only);
@@ -307,7 +306,7 @@ module _ {f : Layout} (good : IsLayout f) {v : View} {first end levels : ℕ} (r
         busy = c'.busy;
         known = λ q i none. (c'.known q).1 i;
         purse = ([], c'.purse.purse);
-        count = λ a. let p : length y.purse ≡ length v.purse = ap length c'.purse.purse in let t : length y.tables ≡ length v.tables = ap length c'.tables in omega arith;
+        frees = frees_none (ap length c'.purse.purse) (ap length c'.tables);
         taken = λ t. (c'.told t).0;
         stores = λ t. c'.stores t run_place here ∙ ap (λ (xs : List Piece). v.stores ++ map Cleared xs) keeps;
         absent = λ t. absences_here (c'.told t).1;

@@ -2,15 +2,15 @@
 use Rattle.std.proofs.Common.{◌≡◌, ◌⊎◌, ℕ, ◌+◌, ◌-◌, ◌*◌, ◌/◌, ◌%◌, ◌^◌, ◌<◌, ◌≤◌, Bool, true, false, List, [], ◌∷◌, ◌++◌, length, min, inl, inr, refl, ap, sym, subst, ◌∙◌, arith, length-append, ⊎_elim}
 use Rattle.std.specs.Prelude.{IsTrue, ◌&&◌, ◌||◌, not, filter, map, nat_le, nat_lt}
 use Rattle.std.proofs.lemmas.Bool.{and_from, and_parts, cases_Bool, cases_lt, eq-eqb, eqb-true, false_from_ne_true, false≢true, leb-true, le-leb, ltb-true, lt-ltb}
-use Rattle.std.proofs.lemmas.Nat.{shr_split, pow_pos, mod_below, mod-mul-add, pow-add, mul-le}
+use Rattle.std.proofs.lemmas.Nat.{shr_split, pow_pos, mod_below, mod-mul-add}
 use Rattle.std.proofs.lemmas.List.{append-nil}
 use Rattle.std.proofs.Math.Nat.{mul-le-mul_left}
 use Rattle.pt_model.specs.declared.position.Position.{Position}
 use Rattle.pt_model.specs.Layout.{Layout, end_of, pages_of_entry, pages_of_table}
-use Rattle.pt_model.specs.Sets.{IsAmong, one_if, places, without_position}
+use Rattle.pt_model.specs.Sets.{IsAmong, places, without_position}
 use Rattle.pt_model.specs.Tables.{child_at, is_same, is_spine, position_over, starting_top}
-use Rattle.pt_model.proofs.Positions.{among_filtered, among_passes, filter_in, filter_out, is_same_self, is_same_true, places_else, same_cases, same_position}
-use Rattle.pt_model.proofs.Quotients.{entry_is_table, whole}
+use Rattle.pt_model.proofs.Positions.{among_filtered, among_passes, is_same_self, is_same_true, same_position}
+use Rattle.pt_model.proofs.Quotients.{entry_is_table}
 use Rattle.pt_format.specs.Laws.{IsLayout}
 use Rattle.pt_view.specs.declared.view.View.{View}
 use Rattle.pt_view.specs.declared.view.Piece.{Piece}
@@ -30,6 +30,7 @@ use Rattle.pt_walk.proofs.Ranges.{clear_below, free_here}
 use Rattle.pt_sweep.specs.Empties.{lies_below}
 use Rattle.pt_sweep.specs.Sweeps.{AreApart, CutsNone, IsBookTable, MaySweep, MaySweepBelow, Sweeps, SweepsBelow, begins_in, end_of_piece, pages_under}
 use Rattle.pt_sweep.proofs.Apart.{apart_filter, begins_is, begins_not, filter_all, filter_none, filtered_one, goes_no_more, goes_split, pages_fit, piece_long}
+use Rattle.pt_sweep.proofs.GoneTables.{below_is, below_none, below_tells, below_wider, ends_before, frees_one, places_filtered, steps_before}
 use Rattle.pt_sweep.proofs.Sweeps.{back_sweeps, loads_sweep, sweeps_as, sweeps_on}
 
 or_last : (a b : Bool) → b ≡ true → (a || b) ≡ true
@@ -40,78 +41,10 @@ not_false : (b : Bool) → not b ≡ true → b ≡ false
 not_false true h = absurd (false≢true h)
 not_false false h = refl
 
--- Whether a table lies in a range, below a level.
-
-pub below_tells : (f : Layout) (first end level : ℕ) (q : Position) → lies_below f first end level q ≡ true → (q.level < level) × (first ≤ q.base) × (q.base + pages_of_table f q.level ≤ end)
-below_tells f first end level q e =
-    let a = and_parts (nat_lt q.level level) _ e in
-    let b = and_parts (nat_le first q.base) _ a.1 in
-    (ltb-true q.level level a.0, leb-true first q.base b.0, leb-true (q.base + pages_of_table f q.level) end b.1)
-
-pub below_is : (f : Layout) (first end level : ℕ) (q : Position) → q.level < level → first ≤ q.base → q.base + pages_of_table f q.level ≤ end → lies_below f first end level q ≡ true
-below_is f first end level q low from to =
-    and_from (nat_lt q.level level) _ (lt-ltb q.level level low) (and_from (nat_le first q.base) _ (le-leb first q.base from) (le-leb (q.base + pages_of_table f q.level) end to))
-
-pub below_none : (f : Layout) (first end level : ℕ) (q : Position) → ((q.level < level) → (first ≤ q.base) → (q.base + pages_of_table f q.level ≤ end) → ⊥) → lies_below f first end level q ≡ false
-below_none f first end level q never = false_from_ne_true (lies_below f first end level q) (λ e. let h = below_tells f first end level q e in never h.0 h.1 h.2)
-
-pub below_wider : (f : Layout) (a b j first end level : ℕ) (q : Position) → first ≤ a → b ≤ end → j ≤ level → lies_below f first end level q ≡ false → lies_below f a b j q ≡ false
-below_wider f a b j first end level q from to low none =
-    below_none f a b j q (λ l m n. false≢true (sym none ∙ below_is f first end level q (omega arith) (omega arith) (omega arith)))
-
--- What is at a multiple of a power lies before a multiple of a greater one, or begins at it or behind.
-steps_before : (j k base at : ℕ) → j ≤ k → base % 2 ^ j ≡ 0 → at % 2 ^ k ≡ 0 → base < at → base + 2 ^ j ≤ at
-steps_before j k base at up aligned multiple before =
-    let more : k ≡ (k - j) + j = omega arith in
-    let pages : 2 ^ k ≡ 2 ^ (k - j) * 2 ^ j = ap (λ x. 2 ^ x) more ∙ pow-add 2 (k - j) j in
-    let m : ℕ = base / 2 ^ j in
-    let n : ℕ = at / 2 ^ k * 2 ^ (k - j) in
-    let here : base ≡ m * 2 ^ j = whole base j aligned in
-    let there : at ≡ n * 2 ^ j = whole at k multiple ∙ ap (λ x. at / 2 ^ k * x) pages ∙ (let g : at / 2 ^ k * (2 ^ (k - j) * 2 ^ j) ≡ at / 2 ^ k * 2 ^ (k - j) * 2 ^ j = omega arith in g) in
-    elim (cases_lt m n) [
-      | inl less ↦ (let h = mul-le (m + 1) (2 ^ j) n (2 ^ j) (omega arith) (omega arith) in omega (arith, h, here, there))
-      | inr over ↦ absurd (let h = mul-le n (2 ^ j) m (2 ^ j) over (omega arith) in omega (arith, h, here, there, before))
-    ]
-
-ends_before : (f : Layout) (level at : ℕ) (q : Position) → q.level < level → q.base % pages_of_table f q.level ≡ 0 → at % pages_of_entry f level ≡ 0 → q.base < at → q.base + pages_of_table f q.level ≤ at
-ends_before f level at q low aligned multiple before =
-    steps_before (f.index * (q.level + 1)) (f.index * level) q.base at (mul-le-mul_left f.index (let h : q.level + 1 ≤ level = omega arith in h)) aligned multiple before
-
 -- the same of a piece
 piece_before : (f : Layout) (level at : ℕ) (x : Piece) → level_of f x ≤ level → first_of f x % pages_of_entry f (level_of f x) ≡ 0 → at % pages_of_entry f level ≡ 0 → first_of f x < at → end_of_piece f x ≤ at
 piece_before f level at x low aligned multiple before =
     steps_before (f.index * level_of f x) (f.index * level) (first_of f x) at (mul-le-mul_left f.index low) aligned multiple before
-
--- Lists without a position, and those that pass a test.
-
-places_filtered : (t : Position → Bool) (ps : List Position) (q : Position) → places q (filter t ps) ≤ places q ps
-places_filtered t [] q = omega arith
-places_filtered t (p ∷ ps) q =
-    let rest = places_filtered t ps q in
-    elim (cases_Bool (t p)) [
-      | inl e ↦ (let h = ap (places q) (filter_in t p ps e) in omega arith)
-      | inr e ↦ (let h = ap (places q) (filter_out t p ps e) in omega arith)
-    ]
-
-all_others : (p : Position) (ps : List Position) → places p ps ≡ 0 → length (without_position p ps) ≡ length ps
-all_others p [] none = refl
-all_others p (q ∷ qs) none = elim (same_cases p q) [
-  | inl e ↦ absurd (let h = ap one_if (is_same_self p q (sym e)) in omega arith)
-  | inr e ↦ (let h = ap length (filter_in (λ x. not (is_same p x)) q qs (ap not e)) in let r = all_others p qs (omega arith) in omega arith)
-]
-
-length_without : (p : Position) (ps : List Position) → places p ps < 2 → IsAmong ps p → length (without_position p ps) + 1 ≡ length ps
-length_without p [] once there = absurd (omega arith)
-length_without p (q ∷ qs) once there = elim (same_cases p q) [
-  | inl e ↦ (
-      let one = ap one_if (is_same_self p q (sym e)) in
-      let h = ap length (filter_out (λ x. not (is_same p x)) q qs (ap not (is_same_self p q (sym e)))) in
-      let r = all_others p qs (omega arith) in omega arith)
-  | inr e ↦ (
-      let none = places_else p q qs e in
-      let h = ap length (filter_in (λ x. not (is_same p x)) q qs (ap not e)) in
-      let r : length (without_position p qs) + 1 ≡ length qs = length_without p qs (omega arith) (omega arith) in omega arith)
-]
 
 -- What is left of a range that may be swept.
 
@@ -422,19 +355,17 @@ module _ {f : Layout} (good : IsLayout f) {tells alone : Type 0} {v : View} {fir
                 busy = i.busy;
                 known = λ q h none. (i.known place (at_entry here) q).1 (ap (λ (p : Position). is_same p q) c ∙ none, h);
                 purse = (i.purse.0 ∷ [], i.purse.1);
-                count = λ a.
-                    let there : IsAmong v.tables child = elim (table_owned l e a) [
-                      | inl t ↦ t
-                      | inr spine ↦ absurd (false≢true (sym off_spine ∙ subst (λ (k : ℕ). is_spine k child ≡ true) (sym came_back.range.levels) spine))
-                    ] in
-                    let left_there : IsAmong z.tables child = subst (λ (ps : List Position). IsAmong ps child) (sym came_back.tables)
-                    (among_passes (λ q. not (lies_below f first end (level - 1) q)) v.tables child there (ap not child_low)) in
+                frees =
                     let once : places child z.tables < 2 = (
                     let few = places_filtered (λ q. not (lies_below f first end (level - 1) q)) v.tables child in
                     let o = may.may.once child in let s = ap (places child) came_back.tables in omega arith) in
-                    let less = length_without child z.tables once left_there in
-                    let x : length y.tables ≡ length (without_position child z.tables) = ap length tables in
-                    let p : length y.purse ≡ length (i.purse.0 ∷ z.purse) = ap length i.purse.1 in omega arith;
+                    frees_one child i.purse.0 i.purse.1 tables once (λ a.
+                        let there : IsAmong v.tables child = elim (table_owned l e a) [
+                          | inl t ↦ t
+                          | inr spine ↦ absurd (false≢true (sym off_spine ∙ subst (λ (k : ℕ). is_spine k child ≡ true) (sym came_back.range.levels) spine))
+                        ] in
+                        subst (λ (ps : List Position). IsAmong ps child) (sym came_back.tables)
+                        (among_passes (λ q. not (lies_below f first end (level - 1) q)) v.tables child there (ap not child_low)));
                 taken = λ t. (i.told t).taken;
                 stores = λ t. (i.told t).stores ∙ sym (ap (λ (xs : List Piece). z.stores ++ map Cleared xs) gone ∙ append-nil z.stores);
                 absent = λ t. absences_here (i.told t).absent;

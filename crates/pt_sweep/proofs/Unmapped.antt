@@ -1,5 +1,5 @@
 -- A range that was taken away, by the blocks of a view at rest.
-use Rattle.std.proofs.Common.{◌≡◌, ℕ, ◌+◌, ◌/◌, ◌^◌, false, List, ◌++◌, length, ap, sym, subst, ◌∙◌, arith}
+use Rattle.std.proofs.Common.{◌≡◌, ℕ, ◌+◌, ◌/◌, ◌^◌, false, List, ◌++◌, ap, sym, subst, ◌∙◌}
 use Rattle.std.specs.Prelude.{not, filter, find, map, Contains, None, option_map}
 use Rattle.pt_model.specs.declared.block.Block.{Block}
 use Rattle.pt_model.specs.declared.position.Position.{Position}
@@ -20,6 +20,7 @@ use Rattle.pt_view.proofs.Loads.{absences_on}
 use Rattle.pt_view.proofs.Stays.{range_on}
 use Rattle.pt_sweep.specs.Sweeps.{CutsNone, SweepsIn, begins_in, pages_under}
 use Rattle.pt_sweep.specs.Unmaps.{IsRange, IsUnmapped, book_without, blocks_gone}
+use Rattle.pt_sweep.proofs.GoneTables.{frees_behind}
 use Rattle.pt_sweep.proofs.BlockPieces.{blocks_go, blocks_pages, blocks_stay, blocks_uncut}
 use Rattle.pt_sweep.proofs.CutBlocks.{found_none}
 
@@ -52,11 +53,7 @@ module _ {f : Layout} (good : IsLayout f) (blocks : List Block) (first count : �
       top = s.top ∙ k.book.top;
       pages = s.pages ∙ ap (pages_under f) go ∙ blocks_pages f good (blocks_gone blocks first count);
       purse = (s.purse.0, s.purse.1 ∙ ap (λ (xs : List ℕ). s.purse.0 ++ xs) k.purse.purse);
-      count = λ h.
-          let x : length y.purse + length y.tables ≡ length w.purse + length w.tables = s.count (still h) in
-          let a : length w.purse ≡ length v.purse = ap length k.purse.purse in
-          let b : length w.tables ≡ length v.tables = ap length k.book.tables in
-          let g : length y.purse + length y.tables ≡ length v.purse + length v.tables = omega arith in g;
+      frees = frees_behind k still s.frees;
       busy = λ x. ((λ h. (k.busy x).0 ((s.busy x).0 h)), (λ h. (s.busy x).1 ((k.busy x).1 h)));
       known = λ q m stays. s.known q (k.known q m) stays;
       taken = λ t. s.taken t ∙ k.taken t;

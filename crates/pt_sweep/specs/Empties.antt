@@ -1,5 +1,5 @@
 -- What the unlinking of the tables in a range of pages that no block meets does.
-use Rattle.std.specs.Prelude.{◌≡◌, ℕ, ◌+◌, nat_lt, ◌&&◌, Bool, false, not, filter, List, ◌++◌, length}
+use Rattle.std.specs.Prelude.{◌≡◌, ℕ, ◌+◌, ◌≤◌, nat_lt, ◌&&◌, Bool, false, not, filter, List, ◌++◌, length}
 use Rattle.pt_model.specs.declared.position.Position.{Position}
 use Rattle.pt_model.specs.Layout.{Layout}
 use Rattle.pt_model.specs.Sets.{IsAmong}
@@ -13,8 +13,12 @@ use Rattle.pt_view.specs.Loads.{AddsAbsences}
 abbrev pub lies_below : Layout → (first end level : ℕ) → Position → Bool
 lies_below f first end level q = nat_lt q.level level && table_lies_in f first end q
 
--- the book loses the tables that pass a test, the purse gets frames in front, as many over a lone holder as the book
--- loses tables; the positions known to be linked that don't pass stay known, and nothing else of the view changes
+-- a frame came to the purse for each table that the book lost, and over a lone holder no other
+pub record Frees (alone : Type 0) (v w : View) : Type 0 where
+  pub each : length v.purse + length v.tables ≤ length w.purse + length w.tables
+  pub only : alone → length w.purse + length w.tables ≡ length v.purse + length v.tables
+
+-- the book loses the tables that pass a test, the purse gets frames in front, one for each table that the book loses; the positions known to be linked that don't pass stay known, and nothing else of the view changes
 pub record Unlinks (f : Layout) (tells alone : Type 0) (passes : Position → Bool) (v w : View) : Type 0 where
   pub range : SameRange v w
   pub pieces : w.pieces ≡ v.pieces
@@ -26,7 +30,7 @@ pub record Unlinks (f : Layout) (tells alone : Type 0) (passes : Position → Bo
   pub busy : SameFrames v.busy w.busy
   pub known : (q : Position) → IsAmong v.known q → passes q ≡ false → IsAmong w.known q
   pub purse : (frames : List ℕ) × (w.purse ≡ frames ++ v.purse)
-  pub count : alone → length w.purse + length w.tables ≡ length v.purse + length v.tables
+  pub frees : Frees alone v w
   pub taken : tells → w.taken ≡ v.taken
   pub stores : tells → w.stores ≡ v.stores
   pub absent : tells → AddsAbsences v w

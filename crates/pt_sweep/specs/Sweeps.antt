@@ -1,5 +1,5 @@
 -- The sweep of a range of pages: the blocks and the tables that lie in it go.
-use Rattle.std.specs.Prelude.{◌≡◌, ◌⊎◌, ℕ, ◌+◌, ◌%◌, ◌<◌, ◌≤◌, nat_le, nat_lt, ◌&&◌, Bool, false, not, filter, map, List, [], ◌∷◌, ◌++◌, length, None}
+use Rattle.std.specs.Prelude.{◌≡◌, ◌⊎◌, ℕ, ◌+◌, ◌%◌, ◌<◌, ◌≤◌, nat_le, nat_lt, ◌&&◌, Bool, false, not, filter, map, List, [], ◌∷◌, ◌++◌, None}
 use Rattle.pt_model.specs.declared.position.Position.{Position}
 use Rattle.pt_model.specs.Layout.{Layout, pages_of_entry, pages_of_table}
 use Rattle.pt_model.specs.Tables.{is_spine}
@@ -13,7 +13,7 @@ use Rattle.pt_view.specs.Pieces.{IsOneOf, first_of, level_of}
 use Rattle.pt_view.specs.Views.{SameRange}
 use Rattle.pt_view.specs.Loads.{AddsAbsences}
 use Rattle.pt_walk.specs.Walks.{IsClear, OwnsAll}
-use Rattle.pt_sweep.specs.Empties.{lies_below}
+use Rattle.pt_sweep.specs.Empties.{Frees, lies_below}
 
 -- the page after the last one under a piece
 abbrev pub end_of_piece : Layout → Piece → ℕ
@@ -61,7 +61,7 @@ pub record MaySweepBelow (f : Layout) (v : View) (first end levels level : ℕ) 
   pub clear : IsClear f v first end level
 
 -- The book loses the tables and the pieces that pass two tests, and so many pages with these; the purse gets frames in
--- front, as many over a lone holder as the book loses tables; the positions known to be linked that don't pass stay known.
+-- front, one for each table that the book loses; the positions known to be linked that don't pass stay known.
 pub record Sweeps (f : Layout) (tells alone : Type 0) (passes : Position → Bool) (goes : Piece → Bool) (v w : View) (many : ℕ) : Type 0 where
   pub range : SameRange v w
   pub pieces : w.pieces ≡ filter (λ x. not (goes x)) v.pieces
@@ -73,7 +73,7 @@ pub record Sweeps (f : Layout) (tells alone : Type 0) (passes : Position → Boo
   pub busy : SameFrames v.busy w.busy
   pub known : (q : Position) → IsAmong v.known q → passes q ≡ false → IsAmong w.known q
   pub purse : (frames : List ℕ) × (w.purse ≡ frames ++ v.purse)
-  pub count : alone → length w.purse + length w.tables ≡ length v.purse + length v.tables
+  pub frees : Frees alone v w
   pub taken : tells → w.taken ≡ v.taken
   pub stores : tells → w.stores ≡ v.stores ++ map Cleared (filter goes v.pieces)
   pub absent : tells → AddsAbsences v w

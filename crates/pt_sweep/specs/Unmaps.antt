@@ -1,5 +1,5 @@
 -- What the taking away of a range of pages answers, and what it does to a view.
-use Rattle.std.specs.Prelude.{◌≡◌, ℕ, ◌+◌, ◌/◌, ◌^◌, ◌<◌, ◌≤◌, option_map, ◌&&◌, false, filter, find, map, List, ◌++◌, length, Option, Some, None, Result, Ok, Err}
+use Rattle.std.specs.Prelude.{◌≡◌, ℕ, ◌+◌, ◌/◌, ◌^◌, ◌<◌, ◌≤◌, option_map, ◌&&◌, false, filter, find, map, List, ◌++◌, Option, Some, None, Result, Ok, Err}
 use Rattle.pt_model.specs.declared.block.Block.{Block}
 use Rattle.pt_model.specs.declared.position.Position.{Position}
 use Rattle.pt_model.specs.Layout.{Layout}
@@ -15,6 +15,7 @@ use Rattle.pt_view.specs.Pieces.{all_pieces}
 use Rattle.pt_view.specs.Views.{IsAtRest, SameRange, book_of}
 use Rattle.pt_walk.specs.RangeWalks.{rested}
 use Rattle.pt_num.specs.declared.Span.{Span}
+use Rattle.pt_sweep.specs.Empties.{Frees}
 use Rattle.pt_sweep.specs.Sweeps.{SweepsBelow, SweepsIn}
 use Rattle.pt_sweep.specs.declared.refused.UnmapRefused.{UnmapRefused}
 use Rattle.pt_sweep.specs.declared.refused.UnmapRefused.TheVariants as refused
@@ -67,7 +68,7 @@ abbrev pub blocks_gone : List Block → (first count : ℕ) → List Block
 blocks_gone blocks first count = filter (lies_in first (first + count)) blocks
 
 -- The pages of a range went: the holder is at rest with the book after it, and the frames of the tables that went are in
--- front of the purse, over a lone holder as many as went.
+-- front of the purse.
 pub record IsUnmapped (f : Layout) (tells alone : Type 0) (v w : View) (blocks : List Block) (first size many : ℕ) : Type 0 where
   pub range : SameRange v w
   pub rest : IsAtRest f w (book_without f v blocks first size).blocks
@@ -75,7 +76,7 @@ pub record IsUnmapped (f : Layout) (tells alone : Type 0) (v w : View) (blocks :
   pub top : w.top ≡ v.top
   pub pages : many ≡ pages_gone (book_of v blocks) first size
   pub purse : (frames : List ℕ) × (w.purse ≡ frames ++ v.purse)
-  pub count : alone → length w.purse + length w.tables ≡ length v.purse + length v.tables
+  pub frees : Frees alone v w
   pub busy : SameFrames v.busy w.busy
   pub known : (q : Position) → IsAmong v.known q → table_lies_in f first (first + size) q ≡ false → IsAmong w.known q
   pub taken : tells → w.taken ≡ v.taken

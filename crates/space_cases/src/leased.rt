@@ -1,5 +1,6 @@
 use fmt_vtdss::VtdSs;
 use pt_space::Space;
+use pt_view::Holder;
 
 #[test]
 fn a_lease_takes_and_frees(rt: HostRuntime) {

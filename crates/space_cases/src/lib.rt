@@ -3,3 +3,5 @@
 
 #[cfg(test)]
 mod leased;
+#[cfg(test)]
+mod threads;

@@ -6,7 +6,7 @@ use Rattle.pt_plain.specs.Owner.{Owned}
 use Rattle.pt_plain.proofs.EntryCalls as entry
 use Rattle.pt_plain.proofs.Laws.{Laws}
 use Rattle.pt_plain.proofs.Owners.{kept_aside, seen}
-use Rattle.pt_plain.proofs.Stored.{stored}
+use Rattle.pt_words.proofs.Stored.{stored}
 use Rattle.pt_plain.proofs.holder.PlainHolder.clear.Given.{Over}
 use Rattle.pt_plain.proofs.holder.PlainHolder.clear.Goals as goal
 use Rattle.pt_plain.proofs.holder.PlainHolder.clear.Goals.{After-deref_mut, After-set_entry}

@@ -7,7 +7,7 @@ use Rattle.pt_plain.proofs.ClearRunCalls as clears
 use Rattle.pt_plain.proofs.Laws.{Laws}
 use Rattle.pt_plain.proofs.Owners.{kept_aside, seen}
 use Rattle.pt_plain.proofs.RunCalls.{run_length}
-use Rattle.pt_plain.proofs.Stored.{written_back}
+use Rattle.pt_words.proofs.Stored.{written_back}
 use Rattle.pt_plain.proofs.holder.PlainHolder.clear_run.Given.{Over}
 use Rattle.pt_plain.proofs.holder.PlainHolder.clear_run.Goals as goal
 use Rattle.pt_plain.proofs.holder.PlainHolder.clear_run.Goals.{After-deref_mut, After-zero_run}

@@ -6,7 +6,7 @@ use Rattle.pt_plain.specs.Owner.{IsOwner, Owned, owned}
 use Rattle.pt_plain.proofs.GrowCalls as growth
 use Rattle.pt_plain.proofs.Laws.{Laws}
 use Rattle.pt_plain.proofs.Owners.{given, kept_aside, seen}
-use Rattle.pt_plain.proofs.Stored.{stored}
+use Rattle.pt_words.proofs.Stored.{stored}
 use Rattle.pt_plain.proofs.TagCalls as tags
 use Rattle.pt_plain.proofs.holder.PlainHolder.grow.Given.{Over}
 use Rattle.pt_plain.proofs.holder.PlainHolder.grow.Goals as goal

@@ -8,7 +8,7 @@ use Rattle.pt_plain.specs.Owner.{Owned}
 use Rattle.pt_plain.proofs.EntryCalls as entry
 use Rattle.pt_plain.proofs.Laws.{Laws}
 use Rattle.pt_plain.proofs.Owners.{given, kept_aside, seen}
-use Rattle.pt_plain.proofs.Stored.{stored}
+use Rattle.pt_words.proofs.Stored.{stored}
 use Rattle.pt_plain.proofs.TagCalls as tags
 use Rattle.pt_plain.proofs.holder.PlainHolder.install.Given.{Over}
 use Rattle.pt_plain.proofs.holder.PlainHolder.install.Goals as goal

@@ -5,7 +5,7 @@ use Rattle.pt_rule.specs.Tags.{held_word}
 use Rattle.pt_plain.specs.Owner.{Owned}
 use Rattle.pt_plain.proofs.Laws.{Laws}
 use Rattle.pt_plain.proofs.Owners.{given, kept_aside, seen}
-use Rattle.pt_plain.proofs.Stored.{stored}
+use Rattle.pt_words.proofs.Stored.{stored}
 use Rattle.pt_plain.proofs.TagCalls as tags
 use Rattle.pt_plain.proofs.holder.PlainHolder.unplace.Given.{Over}
 use Rattle.pt_plain.proofs.holder.PlainHolder.unplace.Goals as goal

@@ -6,7 +6,7 @@ use Rattle.pt_plain.specs.Owner.{Owned, set_run}
 use Rattle.pt_plain.proofs.Laws.{Laws}
 use Rattle.pt_plain.proofs.Owners.{kept_aside, seen}
 use Rattle.pt_plain.proofs.RunCalls as runs
-use Rattle.pt_plain.proofs.Stored.{written_back}
+use Rattle.pt_words.proofs.Stored.{written_back}
 use Rattle.pt_plain.proofs.holder.PlainHolder.write_run.Given.{Over}
 use Rattle.pt_plain.proofs.holder.PlainHolder.write_run.Goals as goal
 use Rattle.pt_plain.proofs.holder.PlainHolder.write_run.Goals.{After-deref_mut, After-set_run}
