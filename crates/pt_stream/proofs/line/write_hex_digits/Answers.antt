@@ -1,4 +1,4 @@
-use Rattle.std.proofs.Common.{◌≡◌, ◌≢◌, ℕ, zero, suc, ◌+◌, ◌-◌, ◌/◌, ◌%◌, ◌^◌, ◌<◌, ◌≤◌, List, [], ◌∷◌, ◌++◌, length, drop, set, false, ap, refl, sym, ◌∙◌, subst, inr, arith}
+use Rattle.std.proofs.Common.{◌≡◌, ◌≢◌, ℕ, zero, suc, ◌+◌, ◌-◌, ◌/◌, ◌%◌, ◌^◌, ◌<◌, ◌≤◌, List, ◌∷◌, ◌++◌, length, drop, set, false, ap, refl, sym, ◌∙◌, subst, inr, arith}
 use Rattle.std.specs.Fmt.{digits_onto, digit_glyph}
 use Rattle.std.proofs.Math.Nat.{pow-zero}
 use Rattle.pt_stream.proofs.Spelling.{onto_last, onto_more, room_next, onto_nil, drop_written}

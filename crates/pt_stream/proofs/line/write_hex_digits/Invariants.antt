@@ -1,4 +1,4 @@
-use Rattle.std.proofs.Common.{◌≡◌, ℕ, ◌+◌, ◌-◌, ◌^◌, ◌<◌, ◌≤◌, ◌++◌, drop, false, List}
+use Rattle.std.proofs.Common.{◌≡◌, ℕ, ◌-◌, ◌^◌, ◌<◌, ◌++◌, drop, false, List}
 use Rattle.std.specs.Fmt.{digits, digits_onto}
 use Rattle.pt_stream.proofs.line.write_hex_digits.Given as goal
 

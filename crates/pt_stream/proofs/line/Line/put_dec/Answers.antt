@@ -1,4 +1,4 @@
-use Rattle.std.proofs.Common.{◌+◌, ◌≤◌, ◌≡◌, ℕ, length, drop, ap, arith, length-append, length-drop}
+use Rattle.std.proofs.Common.{◌≤◌, length, drop, ap, arith, length-append, length-drop}
 use Rattle.std.specs.Fmt.{decimal}
 use Rattle.std.proofs.lemmas.Fmt.{length-decimal-le}
 use Rattle.pt_stream.proofs.line.Line.put_dec.Goals as goal
