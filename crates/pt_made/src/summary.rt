@@ -2,14 +2,13 @@
 
 ghost use Rattle.std.specs.Prelude.{◌≡◌, ◌+◌, ◌*◌, ◌++◌, ◌^◌, ◌≤◌, IfOk, OnOk, codes, length};
 ghost use Rattle.pt_model.specs.Numbers.{decimal};
-ghost use Rattle.pt_model.specs.Text.{census_text};
 ghost use Rattle.pt_script.specs.Scripts.{lines_in};
 ghost use Rattle.pt_made.specs.Summary.{census_line, census_lines, count_of, head_line, is_counted, lookups_line, maps_line, pages_of, pages_unmapped, summary, unmaps_line};
 
-use pt_model::{Answer, Census, LookupAnswer, MapAnswer, Reply, UnmapAnswer};
+use pt_model::{Answer, LookupAnswer, MapAnswer, Reply, UnmapAnswer};
 use pt_num::Memory;
 use pt_script::{Script, name_text};
-use pt_stream::push_dec;
+use pt_stream::{push_census, push_dec_behind};
 use std::alloc::Global;
 
 /// The kinds of answers that are counted.
@@ -70,14 +69,6 @@ fn pages_unmapped(replies: &[Reply]) -> u128
     pages
 }
 
-/// Appends a text and a number.
-fn push_count(out: &mut Vec<u8>, text: &[u8], count: u64) -> Result<(), Memory>
-    ensures { OnOk result (out.new.items ≡ out.old.items ++ (text.now ++ decimal count)) }
-{
-    out.extend_from_slice(text)?;
-    push_dec(out, count)
-}
-
 /// How many lines a script has.
 fn line_count(script: &Script) -> u64
     ensures { result ≡ length (lines_in script.now) }
@@ -88,10 +79,10 @@ fn line_count(script: &Script) -> u64
 fn push_head(out: &mut Vec<u8>, number: u64, script: &Script) -> Result<(), Memory>
     ensures { OnOk result (out.new.items ≡ out.old.items ++ head_line number script.now) }
 {
-    push_count(out, b"made ", number)?;
+    push_dec_behind(out, b"made ", number)?;
     out.extend_from_slice(b" format ")?;
     out.extend_from_slice(name_text(script.format))?;
-    push_count(out, b" lines ", line_count(script))?;
+    push_dec_behind(out, b" lines ", line_count(script))?;
     out.extend_from_slice(b"\n")?;
     Ok(())
 }
@@ -99,8 +90,8 @@ fn push_head(out: &mut Vec<u8>, number: u64, script: &Script) -> Result<(), Memo
 fn push_maps(out: &mut Vec<u8>, replies: &[Reply]) -> Result<(), Memory>
     ensures { OnOk result (out.new.items ≡ out.old.items ++ maps_line replies.now) }
 {
-    push_count(out, b"maps ok ", count_of(Counted::Mapped, replies))?;
-    push_count(out, b" occupied ", count_of(Counted::Occupied, replies))?;
+    push_dec_behind(out, b"maps ok ", count_of(Counted::Mapped, replies))?;
+    push_dec_behind(out, b" occupied ", count_of(Counted::Occupied, replies))?;
     out.extend_from_slice(b"\n")?;
     Ok(())
 }
@@ -117,8 +108,8 @@ fn push_sum(out: &mut Vec<u8>, alloc: Global, sum: u128) -> Result<(), Memory>
 fn push_unmaps(out: &mut Vec<u8>, alloc: Global, replies: &[Reply]) -> Result<(), Memory>
     ensures { OnOk result (out.new.items ≡ out.old.items ++ unmaps_line replies.now) }
 {
-    push_count(out, b"unmaps ok ", count_of(Counted::Unmapped, replies))?;
-    push_count(out, b" cuts ", count_of(Counted::Cut, replies))?;
+    push_dec_behind(out, b"unmaps ok ", count_of(Counted::Unmapped, replies))?;
+    push_dec_behind(out, b" cuts ", count_of(Counted::Cut, replies))?;
     out.extend_from_slice(b" pages ")?;
     push_sum(out, alloc, pages_unmapped(replies))?;
     out.extend_from_slice(b"\n")?;
@@ -128,19 +119,9 @@ fn push_unmaps(out: &mut Vec<u8>, alloc: Global, replies: &[Reply]) -> Result<()
 fn push_lookups(out: &mut Vec<u8>, replies: &[Reply]) -> Result<(), Memory>
     ensures { OnOk result (out.new.items ≡ out.old.items ++ lookups_line replies.now) }
 {
-    push_count(out, b"lookups found ", count_of(Counted::Found, replies))?;
-    push_count(out, b" none ", count_of(Counted::Nothing, replies))?;
+    push_dec_behind(out, b"lookups found ", count_of(Counted::Found, replies))?;
+    push_dec_behind(out, b" none ", count_of(Counted::Nothing, replies))?;
     out.extend_from_slice(b"\n")?;
-    Ok(())
-}
-
-fn push_census(out: &mut Vec<u8>, census: Census) -> Result<(), Memory>
-    ensures { OnOk result (out.new.items ≡ out.old.items ++ census_text census) }
-{
-    push_count(out, b"census levels ", u64::from(census.levels))?;
-    push_count(out, b" tables ", census.tables)?;
-    push_count(out, b" blocks ", census.blocks)?;
-    push_count(out, b" pages ", census.pages)?;
     Ok(())
 }
 

@@ -1,5 +1,5 @@
 -- What the text of a reply can tell.
-use Rattle.std.specs.Prelude.{ℕ, ◌+◌, ◌-◌, ◌++◌, nat_lt, Bool, IsTrue, List, All, codes}
+use Rattle.std.specs.Prelude.{ℕ, ◌+◌, ◌-◌, ◌++◌, nat_lt, Bool, true, false, IsTrue, List, All, codes}
 use Rattle.std.specs.List.{list_all}
 use Rattle.pt_model.specs.Numbers.{decimal, hexadecimal}
 use Rattle.pt_model.specs.declared.block.Block.{Block}
@@ -9,7 +9,7 @@ use Rattle.pt_model.specs.declared.reply.UnmapAnswer.TheVariants as unmapping
 use Rattle.pt_model.specs.declared.reply.ForkAnswer.{ForkAnswer}
 use Rattle.pt_model.specs.declared.reply.ForkAnswer.TheVariants as forking
 use Rattle.pt_model.specs.declared.reply.Answer.{Answer}
-use Rattle.pt_model.specs.declared.reply.Answer.TheVariants.{Unmap, Dump, Fork}
+use Rattle.pt_model.specs.declared.reply.Answer.TheVariants.{Unmap, Dump, Fork, Census}
 use Rattle.pt_model.specs.Layout.{Layout, IsLegalBlock}
 use Rattle.pt_model.specs.Text.{part_word, prot_text, words_of}
 
@@ -41,7 +41,17 @@ IsTellable f (Fork a) = CutsLegalBlock f a
 IsTellable f (Dump d) = All (IsListable f) d.lowest
 IsTellable f other = Unit {0}
 
+-- whether an answer is told in one short line: a dump has a line for each block, and a census four numbers
+abbrev pub is_short : Answer → Bool
+is_short (Dump d) = false
+is_short (Census c) = false
+is_short other = true
+
 -- Parts of a line.
+
+-- what is told behind the number of a command's line
+abbrev pub numbered : (number : ℕ) → (text : List ℕ) → List ℕ
+numbered number text = decimal number ++ codes " " ++ text ++ codes "\n"
 
 -- an output address, in bytes, and what is permitted
 abbrev pub output_text : (address : ℕ) → Prot → List ℕ

@@ -1,33 +1,45 @@
-//! The text of replies, appended to one vector of bytes.
+//! The text of replies. A line is made from its end, and appended to one vector of bytes.
 
-ghost use Rattle.std.specs.Prelude.{◌≡◌, ◌++◌, ◌*◌, ◌^◌, ◌<◌, All, OnOk, codes};
-ghost use Rattle.pt_model.specs.Numbers.{decimal};
-ghost use Rattle.pt_model.specs.Text.{map_text, bytes_of, cut_text, unmap_text, fork_text, lookup_text, words_of, part_word, block_text, block_lines, dump_text, walk_text, census_text, answer_text, reply_text};
-ghost use Rattle.pt_reply.specs.Telling.{IsNameable, IsListable, IsTellable, NamesLegalBlock, CutsLegalBlock, output_text, words_text};
+ghost use Rattle.std.specs.Prelude.{◌≡◌, ◌++◌, ◌*◌, ◌^◌, ◌<◌, All, OnOk, IsTrue, codes};
+ghost use Rattle.pt_model.specs.Text.{map_text, prot_text, bytes_of, cut_text, unmap_text, fork_text, lookup_text, words_of, part_word, block_text, block_lines, dump_text, walk_text, census_text, answer_text, reply_text};
+ghost use Rattle.pt_stream.specs.Lines.{HasRoom, GrowsBy};
+ghost use Rattle.pt_reply.specs.Telling.{is_short, numbered, IsNameable, IsListable, IsTellable, NamesLegalBlock, CutsLegalBlock, output_text, words_text};
 
 use pt_format::{Block, Format, byte_of};
 use pt_model::{
     Answer, Census, Dump, ForkAnswer, LookupAnswer, MapAnswer, Prot, Reply, UnmapAnswer,
 };
 use pt_num::Memory;
-use pt_script::push_prot;
-use pt_stream::{push_dec, push_hex};
+use pt_stream::{Line, push_census, push_dec, push_dec_behind};
 
-fn push_map(out: &mut Vec<u8>, answer: MapAnswer) -> Result<(), Memory>
-    ensures { OnOk result (out.new.items ≡ out.old.items ++ map_text answer) }
+/// Puts a permission in front of a line.
+fn put_prot(line: &mut Line, prot: Prot)
+    requires { HasRoom 2 line.old }
+    ensures line { line.new ≡ prot_text prot ++ line.old }
+    ensures short { GrowsBy 2 line.old line.new }
+{
+    match prot {
+        Prot::Read => line.put(b"r"),
+        Prot::ReadWrite => line.put(b"rw"),
+    }
+}
+
+fn put_map(line: &mut Line, answer: MapAnswer)
+    requires { HasRoom 48 line.old }
+    ensures line { line.new ≡ map_text answer ++ line.old }
+    ensures short { GrowsBy 48 line.old line.new }
 {
     match answer {
-        MapAnswer::Mapped => out.extend_from_slice(b"map ok")?,
-        MapAnswer::Misaligned => out.extend_from_slice(b"map misaligned")?,
-        MapAnswer::Outside => out.extend_from_slice(b"map outside")?,
-        MapAnswer::Output => out.extend_from_slice(b"map output")?,
+        MapAnswer::Mapped => line.put(b"map ok"),
+        MapAnswer::Misaligned => line.put(b"map misaligned"),
+        MapAnswer::Outside => line.put(b"map outside"),
+        MapAnswer::Output => line.put(b"map output"),
         MapAnswer::Occupied { address } => {
-            out.extend_from_slice(b"map occupied ")?;
-            push_hex(out, address)?;
+            line.put_hex(address);
+            line.put(b"map occupied ");
         }
-        MapAnswer::Frames => out.extend_from_slice(b"map frames")?,
+        MapAnswer::Frames => line.put(b"map frames"),
     }
-    Ok(())
 }
 
 /// The bytes of a block.
@@ -38,74 +50,81 @@ fn bytes_in<F: Format>(block: Block) -> u64
     1 << (F::GRANULE + block.log2)
 }
 
-/// Appends the first address of a block and its bytes.
-fn push_cut<F: Format>(out: &mut Vec<u8>, block: Block) -> Result<(), Memory>
-    requires { IsNameable F.layout block }
-    ensures { OnOk result (out.new.items ≡ out.old.items ++ cut_text F.layout block) }
+/// Puts the first address of a block and its bytes in front of a line.
+fn put_cut<F: Format>(line: &mut Line, block: Block)
+    requires block { IsNameable F.layout block }
+    requires room { HasRoom 37 line.old }
+    ensures line { line.new ≡ cut_text F.layout block ++ line.old }
+    ensures short { GrowsBy 37 line.old line.new }
 {
-    push_hex(out, byte_of::<F>(block.first))?;
-    out.extend_from_slice(b" ")?;
-    push_hex(out, bytes_in::<F>(block))
+    line.put_hex(bytes_in::<F>(block));
+    line.put(b" ");
+    line.put_hex(byte_of::<F>(block.first));
 }
 
 /// The texts are `unmap ok` and the pages, `unmap misaligned`, `unmap outside`, and `unmap cuts` with the block's
 /// first address and its bytes.
-fn push_unmap<F: Format>(out: &mut Vec<u8>, answer: UnmapAnswer) -> Result<(), Memory>
-    requires { NamesLegalBlock F.layout answer }
-    ensures { OnOk result (out.new.items ≡ out.old.items ++ unmap_text F.layout answer) }
+fn put_unmap<F: Format>(line: &mut Line, answer: UnmapAnswer)
+    requires block { NamesLegalBlock F.layout answer }
+    requires room { HasRoom 48 line.old }
+    ensures line { line.new ≡ unmap_text F.layout answer ++ line.old }
+    ensures short { GrowsBy 48 line.old line.new }
 {
     match answer {
         UnmapAnswer::Unmapped { pages } => {
-            out.extend_from_slice(b"unmap ok ")?;
-            push_dec(out, pages)?;
+            line.put_dec(pages);
+            line.put(b"unmap ok ");
         }
-        UnmapAnswer::Misaligned => out.extend_from_slice(b"unmap misaligned")?,
-        UnmapAnswer::Outside => out.extend_from_slice(b"unmap outside")?,
+        UnmapAnswer::Misaligned => line.put(b"unmap misaligned"),
+        UnmapAnswer::Outside => line.put(b"unmap outside"),
         UnmapAnswer::Cuts { block } => {
-            out.extend_from_slice(b"unmap cuts ")?;
-            push_cut::<F>(out, block)?;
+            put_cut::<F>(line, block);
+            line.put(b"unmap cuts ");
         }
     }
-    Ok(())
 }
 
-fn push_fork<F: Format>(out: &mut Vec<u8>, answer: ForkAnswer) -> Result<(), Memory>
-    requires { CutsLegalBlock F.layout answer }
-    ensures { OnOk result (out.new.items ≡ out.old.items ++ fork_text F.layout answer) }
+fn put_fork<F: Format>(line: &mut Line, answer: ForkAnswer)
+    requires block { CutsLegalBlock F.layout answer }
+    requires room { HasRoom 48 line.old }
+    ensures line { line.new ≡ fork_text F.layout answer ++ line.old }
+    ensures short { GrowsBy 48 line.old line.new }
 {
     match answer {
-        ForkAnswer::Forked => out.extend_from_slice(b"fork ok")?,
-        ForkAnswer::Misaligned => out.extend_from_slice(b"fork misaligned")?,
-        ForkAnswer::Outside => out.extend_from_slice(b"fork outside")?,
+        ForkAnswer::Forked => line.put(b"fork ok"),
+        ForkAnswer::Misaligned => line.put(b"fork misaligned"),
+        ForkAnswer::Outside => line.put(b"fork outside"),
         ForkAnswer::Cuts { block } => {
-            out.extend_from_slice(b"fork cuts ")?;
-            push_cut::<F>(out, block)?;
+            put_cut::<F>(line, block);
+            line.put(b"fork cuts ");
         }
     }
-    Ok(())
 }
 
-/// Appends an output address, in bytes, and what is permitted.
-fn push_output(out: &mut Vec<u8>, address: u64, prot: Prot) -> Result<(), Memory>
-    ensures { OnOk result (out.new.items ≡ out.old.items ++ output_text address prot) }
+/// Puts an output address, in bytes, and what is permitted in front of a line.
+fn put_output(line: &mut Line, address: u64, prot: Prot)
+    requires { HasRoom 21 line.old }
+    ensures line { line.new ≡ output_text address prot ++ line.old }
+    ensures short { GrowsBy 21 line.old line.new }
 {
-    push_hex(out, address)?;
-    out.extend_from_slice(b" ")?;
-    push_prot(out, prot)
+    put_prot(line, prot);
+    line.put(b" ");
+    line.put_hex(address);
 }
 
-fn push_lookup(out: &mut Vec<u8>, answer: LookupAnswer) -> Result<(), Memory>
-    ensures { OnOk result (out.new.items ≡ out.old.items ++ lookup_text answer) }
+fn put_lookup(line: &mut Line, answer: LookupAnswer)
+    requires { HasRoom 48 line.old }
+    ensures line { line.new ≡ lookup_text answer ++ line.old }
+    ensures short { GrowsBy 48 line.old line.new }
 {
     match answer {
         LookupAnswer::Found { out: address, prot } => {
-            out.extend_from_slice(b"lookup ")?;
-            push_output(out, address, prot)?;
+            put_output(line, address, prot);
+            line.put(b"lookup ");
         }
-        LookupAnswer::Nothing => out.extend_from_slice(b"lookup none")?,
-        LookupAnswer::Outside => out.extend_from_slice(b"lookup outside")?,
+        LookupAnswer::Nothing => line.put(b"lookup none"),
+        LookupAnswer::Outside => line.put(b"lookup outside"),
     }
-    Ok(())
 }
 
 /// A word of a block, by its number.
@@ -131,17 +150,19 @@ fn words_in<F: Format>(block: Block) -> u64
     1 << (block.log2 % F::INDEX)
 }
 
-/// Appends how many words a block has, and the first and the last of them.
-fn push_words<F: Format>(out: &mut Vec<u8>, block: Block) -> Result<(), Memory>
-    requires { IsListable F.layout block }
-    ensures { OnOk result (out.new.items ≡ out.old.items ++ words_text F.layout block) }
+/// Puts how many words a block has, and the first and the last of them, in front of a line.
+fn put_words<F: Format>(line: &mut Line, block: Block)
+    requires block { IsListable F.layout block }
+    requires room { HasRoom 58 line.old }
+    ensures line { line.new ≡ words_text F.layout block ++ line.old }
+    ensures short { GrowsBy 58 line.old line.new }
 {
     let words = words_in::<F>(block);
-    push_dec(out, words)?;
-    out.extend_from_slice(b" ")?;
-    push_hex(out, part_word::<F>(block, 0))?;
-    out.extend_from_slice(b" ")?;
-    push_hex(out, part_word::<F>(block, words - 1))
+    line.put_hex(part_word::<F>(block, words - 1));
+    line.put(b" ");
+    line.put_hex(part_word::<F>(block, 0));
+    line.put(b" ");
+    line.put_dec(words);
 }
 
 /// The output address of a block, in bytes.
@@ -152,17 +173,32 @@ fn output_of<F: Format>(block: Block) -> u64
     block.out << F::GRANULE
 }
 
-/// Appends what a dump tells of a block: its address and bytes, its output address and what is permitted, and its words.
+/// Puts what a dump tells of a block in front of a line: its address and bytes, its output address and what is permitted,
+/// and its words.
+fn put_block<F: Format>(line: &mut Line, block: Block)
+    requires block { IsListable F.layout block }
+    requires room { HasRoom 124 line.old }
+    ensures line { line.new ≡ block_text F.layout block ++ line.old }
+    ensures short { GrowsBy 124 line.old line.new }
+{
+    put_words::<F>(line, block);
+    line.put(b" ");
+    put_output(line, output_of::<F>(block), block.prot);
+    line.put(b" ");
+    put_cut::<F>(line, block);
+    line.put(b"block ");
+}
+
+/// Appends the line of a block, behind a line feed.
 fn push_block<F: Format>(out: &mut Vec<u8>, block: Block) -> Result<(), Memory>
     requires { IsListable F.layout block }
-    ensures { OnOk result (out.new.items ≡ out.old.items ++ block_text F.layout block) }
+    ensures { OnOk result (out.new.items ≡ out.old.items ++ (codes "\n" ++ block_text F.layout block)) }
 {
-    out.extend_from_slice(b"block ")?;
-    push_cut::<F>(out, block)?;
-    out.extend_from_slice(b" ")?;
-    push_output(out, output_of::<F>(block), block.prot)?;
-    out.extend_from_slice(b" ")?;
-    push_words::<F>(out, block)
+    let mut line = Line::new();
+    put_block::<F>(&mut line, block);
+    line.put(b"\n");
+    line.push_to(out)?;
+    Ok(())
 }
 
 /// Appends the lines of blocks, each behind a line feed.
@@ -171,74 +207,79 @@ fn push_blocks<F: Format>(out: &mut Vec<u8>, blocks: &[Block]) -> Result<(), Mem
     ensures { OnOk result (out.new.items ≡ out.old.items ++ block_lines F.layout blocks.now) }
 {
     for block in blocks {
-        out.extend_from_slice(b"\n")?;
         push_block::<F>(out, *block)?;
     }
     Ok(())
 }
 
 /// Appends how many blocks there are, and the lines of the lowest of them.
-fn push_dump<F: Format>(out: &mut Vec<u8>, dump: &Dump) -> Result<(), Memory>
+fn push_dump<F: Format>(out: &mut Vec<u8>, number: u64, dump: &Dump) -> Result<(), Memory>
     requires { All (IsListable F.layout) dump.now.lowest }
-    ensures { OnOk result (out.new.items ≡ out.old.items ++ dump_text F.layout dump.now) }
+    ensures { OnOk result (out.new.items ≡ out.old.items ++ numbered number (dump_text F.layout dump.now)) }
 {
-    out.extend_from_slice(b"dump ")?;
-    push_dec(out, dump.count)?;
-    push_blocks::<F>(out, dump.lowest.blocks())
+    push_dec(out, number)?;
+    push_dec_behind(out, b" dump ", dump.count)?;
+    push_blocks::<F>(out, dump.lowest.blocks())?;
+    out.extend_from_slice(b"\n")?;
+    Ok(())
 }
 
-fn push_walk(out: &mut Vec<u8>, answer: Option<(u64, Prot)>) -> Result<(), Memory>
-    ensures { OnOk result (out.new.items ≡ out.old.items ++ walk_text answer) }
+/// Appends the line of a census.
+fn push_counts(out: &mut Vec<u8>, number: u64, census: Census) -> Result<(), Memory>
+    ensures { OnOk result (out.new.items ≡ out.old.items ++ numbered number (census_text census)) }
+{
+    push_dec(out, number)?;
+    out.extend_from_slice(b" ")?;
+    push_census(out, census)?;
+    out.extend_from_slice(b"\n")?;
+    Ok(())
+}
+
+fn put_walk(line: &mut Line, answer: Option<(u64, Prot)>)
+    requires { HasRoom 48 line.old }
+    ensures line { line.new ≡ walk_text answer ++ line.old }
+    ensures short { GrowsBy 48 line.old line.new }
 {
     match answer {
         Some((address, prot)) => {
-            out.extend_from_slice(b"walk ")?;
-            push_output(out, address, prot)?;
+            put_output(line, address, prot);
+            line.put(b"walk ");
         }
-        None => out.extend_from_slice(b"walk none")?,
+        None => line.put(b"walk none"),
     }
-    Ok(())
 }
 
-/// Appends a name and a number.
-fn push_count(out: &mut Vec<u8>, name: &[u8], count: u64) -> Result<(), Memory>
-    ensures { OnOk result (out.new.items ≡ out.old.items ++ (name.now ++ decimal count)) }
-{
-    out.extend_from_slice(name)?;
-    push_dec(out, count)
-}
-
-fn push_census(out: &mut Vec<u8>, census: Census) -> Result<(), Memory>
-    ensures { OnOk result (out.new.items ≡ out.old.items ++ census_text census) }
-{
-    push_count(out, b"census levels ", u64::from(census.levels))?;
-    push_count(out, b" tables ", census.tables)?;
-    push_count(out, b" blocks ", census.blocks)?;
-    push_count(out, b" pages ", census.pages)?;
-    Ok(())
-}
-
-fn push_release(out: &mut Vec<u8>) -> Result<(), Memory>
-    ensures { OnOk result (out.new.items ≡ out.old.items ++ codes "release ok") }
-{
-    out.extend_from_slice(b"release ok")?;
-    Ok(())
-}
-
-fn push_answer<F: Format>(out: &mut Vec<u8>, answer: &Answer) -> Result<(), Memory>
-    requires { IsTellable F.layout answer.now }
-    ensures { OnOk result (out.new.items ≡ out.old.items ++ answer_text F.layout answer.now) }
+/// Puts an answer of one line in front of a line.
+fn put_answer<F: Format>(line: &mut Line, answer: &Answer)
+    requires tellable { IsTellable F.layout answer.now }
+    requires short { IsTrue (is_short answer.now) }
+    requires room { HasRoom 48 line.old }
+    ensures line { line.new ≡ answer_text F.layout answer.now ++ line.old }
+    ensures short { GrowsBy 48 line.old line.new }
 {
     match answer {
-        Answer::Map(answer) => push_map(out, *answer),
-        Answer::Unmap(answer) => push_unmap::<F>(out, *answer),
-        Answer::Lookup(answer) => push_lookup(out, *answer),
-        Answer::Dump(dump) => push_dump::<F>(out, dump),
-        Answer::Release => push_release(out),
-        Answer::Fork(answer) => push_fork::<F>(out, *answer),
-        Answer::Walk(answer) => push_walk(out, *answer),
-        Answer::Census(census) => push_census(out, *census),
+        Answer::Map(answer) => put_map(line, *answer),
+        Answer::Unmap(answer) => put_unmap::<F>(line, *answer),
+        Answer::Lookup(answer) => put_lookup(line, *answer),
+        Answer::Release => line.put(b"release ok"),
+        Answer::Fork(answer) => put_fork::<F>(line, *answer),
+        Answer::Walk(answer) => put_walk(line, *answer),
+        Answer::Dump(_) | Answer::Census(_) => unreachable!(),
     }
+}
+
+/// Appends the line of a reply that is short.
+fn push_short<F: Format>(out: &mut Vec<u8>, number: u64, answer: &Answer) -> Result<(), Memory>
+    requires tellable { IsTellable F.layout answer.now }
+    requires short { IsTrue (is_short answer.now) }
+    ensures { OnOk result (out.new.items ≡ out.old.items ++ numbered number (answer_text F.layout answer.now)) }
+{
+    let mut line = Line::new();
+    line.put(b"\n");
+    put_answer::<F>(&mut line, answer);
+    line.put(b" ");
+    line.put_dec(number);
+    line.push_to(out)
 }
 
 /// Appends the line of a reply; behind that of a dump the lines of its blocks. Blocks that it names are legal ones of the
@@ -247,9 +288,10 @@ pub fn push_reply<F: Format>(out: &mut Vec<u8>, reply: &Reply) -> Result<(), Mem
     requires { IsTellable F.layout reply.now.answer }
     ensures { OnOk result (out.new.items ≡ out.old.items ++ reply_text F.layout reply.now) }
 {
-    push_dec(out, u64::from(reply.line))?;
-    out.extend_from_slice(b" ")?;
-    push_answer::<F>(out, &reply.answer)?;
-    out.extend_from_slice(b"\n")?;
-    Ok(())
+    let number = u64::from(reply.line);
+    match &reply.answer {
+        Answer::Dump(dump) => push_dump::<F>(out, number, dump),
+        Answer::Census(census) => push_counts(out, number, *census),
+        answer => push_short::<F>(out, number, answer),
+    }
 }

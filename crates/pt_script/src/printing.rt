@@ -1,6 +1,5 @@
 // The text of a script.
 ghost use Rattle.std.specs.Prelude.{◌≡◌, ◌++◌, ◌∷◌, [], IfOk, OnOk, OnErr};
-ghost use Rattle.pt_model.specs.Numbers.{decimal, hexadecimal};
 ghost use Rattle.pt_model.specs.Text.{prot_text};
 ghost use Rattle.pt_script.specs.Lines.{text_of, name_text, command_line, ask_line};
 ghost use Rattle.pt_script.specs.Text.{script_text};
@@ -11,7 +10,7 @@ use crate::line::Line;
 use crate::whole::Script;
 use pt_model::{Ask, AskWhat, Command, Name, Prot, What};
 use pt_num::Memory;
-use pt_stream::{push_dec, push_hex};
+use pt_stream::{push_dec_behind, push_hex_behind};
 use std::alloc::Global;
 
 /// The name of a format, as a script's first line has it.
@@ -56,21 +55,6 @@ fn push_format(out: &mut Vec<u8>, name: Name, levels: u64) -> Result<(), Memory>
         push_dec_behind(out, b" levels ", levels)?;
     }
     Ok(())
-}
-
-// A text and a number behind it.
-fn push_dec_behind(out: &mut Vec<u8>, text: &[u8], value: u64) -> Result<(), Memory>
-    ensures { OnOk result (out.new.items ≡ out.old.items ++ (text.now ++ decimal value)) }
-{
-    out.extend_from_slice(text)?;
-    push_dec(out, value)
-}
-
-fn push_hex_behind(out: &mut Vec<u8>, text: &[u8], value: u64) -> Result<(), Memory>
-    ensures { OnOk result (out.new.items ≡ out.old.items ++ (text.now ++ hexadecimal value)) }
-{
-    out.extend_from_slice(text)?;
-    push_hex(out, value)
 }
 
 fn push_map(out: &mut Vec<u8>, va: u64, pa: u64, len: u64, prot: Prot) -> Result<(), Memory>

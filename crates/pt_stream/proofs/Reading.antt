@@ -1,5 +1,5 @@
 -- Reading digits from the first to the last.
-use Rattle.std.proofs.Common.{◌≡◌, ◌≢◌, ℕ, zero, suc, ◌+◌, ◌-◌, ◌*◌, ◌/◌, ◌%◌, ◌^◌, ◌<◌, ◌≤◌, ◌⊎◌, List, [], ◌∷◌, ◌++◌, length, take, false, refl, ap, subst, sym, ◌∙◌, arith, inl, inr, get_or, append_assoc}
+use Rattle.std.proofs.Common.{◌≡◌, ◌≢◌, ℕ, zero, suc, ◌+◌, ◌*◌, ◌/◌, ◌%◌, ◌^◌, ◌<◌, ◌≤◌, ◌⊎◌, List, [], ◌∷◌, ◌++◌, length, take, false, refl, ap, subst, sym, ◌∙◌, arith, inl, inr, get_or, append_assoc}
 use Rattle.std.specs.Fmt.{digits, digits_onto, digit_glyph}
 use Rattle.std.specs.Bool.{⊤}
 use Rattle.std.specs.Char.{digit_value}
@@ -51,7 +51,7 @@ glyph_at base (c ∷ cs) zero g h = g.0
 glyph_at base (c ∷ cs) (suc i) g h = glyph_at base cs i g.1 (omega (arith, h))
 
 -- what is written in front of other text
-onto_append : (k base n : ℕ) (acc : List ℕ) → digits_onto k base false n acc ≡ digits_onto k base false n [] ++ acc
+pub onto_append : (k base n : ℕ) (acc : List ℕ) → digits_onto k base false n acc ≡ digits_onto k base false n [] ++ acc
 onto_append zero base n acc = refl
 onto_append (suc k) base n acc =
     let g = digit_glyph false (n % base) in

@@ -1,42 +1,10 @@
 // The one spelling of a number, in decimal and in hexadecimal.
-ghost use Rattle.std.specs.Prelude.{◌≡◌, ◌≢◌, ℕ, ◌+◌, ◌^◌, ◌<◌, ◌≤◌, ◌⊎◌, ◌↔◌, ◌++◌, length, slice_range, false, IsTrue, IfSome, IfNone, OnOk, OnErr};
+ghost use Rattle.std.specs.Prelude.{◌≡◌, ◌≢◌, ℕ, ◌+◌, ◌^◌, ◌<◌, ◌≤◌, ◌⊎◌, ◌↔◌, ◌++◌, false, IsTrue, IfSome, IfNone, OnOk, OnErr};
 ghost use Rattle.std.specs.Fmt.{digits, digit_glyph};
 ghost use Rattle.pt_model.specs.Numbers.{decimal, hexadecimal, HasOneNumber};
 
+use crate::Line;
 use pt_num::Memory;
-
-// The digits of `2^64 - 1` in decimal.
-const MOST_DIGITS: usize = 20;
-
-fn digit_byte(digit: u8) -> u8
-    requires { digit < 16 }
-    ensures { result ≡ digit_glyph false digit }
-{
-    if digit < 10 {
-        b'0' + digit
-    } else {
-        b'a' - 10 + digit
-    }
-}
-
-// Writes the digits at the end of `bytes`, and says where they begin.
-fn write_digits(bytes: &mut [u8], value: u64, base: u64) -> usize
-    requires room { length bytes.old ≡ MOST_DIGITS }
-    requires base { (base ≡ 10) ⊎ (base ≡ 16) }
-    ensures start { result ≤ MOST_DIGITS }
-    ensures digits { slice_range bytes.new result MOST_DIGITS ≡ digits base false value }
-{
-    let mut start = MOST_DIGITS;
-    let mut rest = value;
-    'digits: loop {
-        start -= 1;
-        bytes[start] = digit_byte((rest % base) as u8);
-        rest /= base;
-        if rest == 0 {
-            return start;
-        }
-    }
-}
 
 // The digit of which a byte is the one glyph.
 fn digit_in(byte: u8, base: u64) -> Option<u64>
@@ -105,10 +73,9 @@ pub fn push_dec(out: &mut Vec<u8>, value: u64) -> Result<(), Memory>
     ensures ok { OnOk result (out.new.items ≡ out.old.items ++ decimal value) }
     ensures err { OnErr result (out.new.items ≡ out.old.items) }
 {
-    let mut bytes = [0; MOST_DIGITS];
-    let start = write_digits(&mut bytes, value, 10);
-    out.extend_from_slice(&bytes[start..])?;
-    Ok(())
+    let mut line = Line::new();
+    line.put_dec(value);
+    line.push_to(out)
 }
 
 /// Appends the hexadecimal spelling. After `Memory`, the only error, the vector is as before.
@@ -116,12 +83,9 @@ pub fn push_hex(out: &mut Vec<u8>, value: u64) -> Result<(), Memory>
     ensures ok { OnOk result (out.new.items ≡ out.old.items ++ hexadecimal value) }
     ensures err { OnErr result (out.new.items ≡ out.old.items) }
 {
-    let mut bytes = [0; MOST_DIGITS];
-    let start = write_digits(&mut bytes, value, 16);
-    out.reserve(MOST_DIGITS + 2)?;
-    out.extend_from_slice(b"0x")?;
-    out.extend_from_slice(&bytes[start..])?;
-    Ok(())
+    let mut line = Line::new();
+    line.put_hex(value);
+    line.push_to(out)
 }
 
 /// No two numbers have one spelling, so what was pushed is read again.

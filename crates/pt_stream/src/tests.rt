@@ -1,6 +1,6 @@
 use crate::{
-    Failed, MemorySink, MemorySource, ReadError, Sink, Source, StdSink, StdSource, SureSource,
-    push_dec, push_hex, read_all, read_dec, read_hex, write_all,
+    Failed, Line, MemorySink, MemorySource, ReadError, Sink, Source, StdSink, StdSource,
+    SureSource, push_dec, push_hex, read_all, read_dec, read_hex, write_all,
 };
 use std::io::{Read, Write};
 use std::test::Fail;
@@ -44,6 +44,19 @@ fn numbers_have_one_spelling(rt: HostRuntime) -> Result<(), Fail> {
             assert_eq!(rt; &out[1..], text.as_bytes());
         }
     }
+    Ok(())
+}
+
+#[test]
+fn a_line_is_made_from_its_end(rt: HostRuntime) -> Result<(), Fail> {
+    let mut line = Line::new();
+    line.put(b"\n");
+    line.put_hex(0x1f000);
+    line.put(b" ");
+    line.put_dec(7);
+    let mut out = vec![in rt.alloc(); b'=']?;
+    line.push_to(&mut out)?;
+    assert_eq!(rt; out.as_slice(), b"=7 0x1f000\n".as_slice());
     Ok(())
 }
 
