@@ -160,15 +160,17 @@ fn reply(line: u32, answer: Answer) -> Reply {
     Reply { line, answer }
 }
 
+/// A block that an unmap would cut.
+const CUT: Block = Block {
+    first: 0,
+    log2: 5,
+    out: 0,
+    prot: Prot::Read,
+};
+
 #[test]
 fn summary_by_hand(rt: HostRuntime) -> Result<(), Memory> {
     let script = generate(rt.alloc(), 8)?;
-    let block = Block {
-        first: 0,
-        log2: 5,
-        out: 0,
-        prot: Prot::Read,
-    };
     let replies = [
         reply(6, Answer::Map(MapAnswer::Mapped)),
         reply(7, Answer::Map(MapAnswer::Occupied { address: 0 })),
@@ -176,7 +178,7 @@ fn summary_by_hand(rt: HostRuntime) -> Result<(), Memory> {
         reply(9, Answer::Map(MapAnswer::Misaligned)),
         reply(10, Answer::Unmap(UnmapAnswer::Unmapped { pages: u64::MAX })),
         reply(11, Answer::Unmap(UnmapAnswer::Unmapped { pages: 2 })),
-        reply(12, Answer::Unmap(UnmapAnswer::Cuts { block })),
+        reply(12, Answer::Unmap(UnmapAnswer::Cuts { block: CUT })),
         reply(
             13,
             Answer::Lookup(LookupAnswer::Found {
@@ -198,17 +200,9 @@ fn summary_by_hand(rt: HostRuntime) -> Result<(), Memory> {
         ),
     ];
     let text = summary_text(rt.alloc(), 8, &script, &replies)?;
-    let lines: [&[u8]; 5] = [
-        b"made 8 format vmsa64 lines 255\n",
-        b"maps ok 1 occupied 2\n",
-        b"unmaps ok 2 cuts 1 pages 18446744073709551617\n",
-        b"lookups found 1 none 2\n",
-        b"census levels 3 tables 7 blocks 20 pages 300\n",
-    ];
-    let mut wanted = Vec::new(rt.alloc());
-    for line in lines {
-        wanted.extend_from_slice(line)?;
-    }
-    assert!(rt; text.as_slice() == wanted.as_slice());
+    let wanted: &[u8] = b"made 8 format vmsa64 lines 255\nmaps ok 1 occupied 2\n\
+        unmaps ok 2 cuts 1 pages 18446744073709551617\nlookups found 1 none 2\n\
+        census levels 3 tables 7 blocks 20 pages 300\n";
+    assert!(rt; text.as_slice() == wanted);
     Ok(())
 }
