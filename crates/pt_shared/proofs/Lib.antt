@@ -1,0 +1,2 @@
+-- Places of views that keep their ranges and books, and of the parts of a view.
+mod Places
