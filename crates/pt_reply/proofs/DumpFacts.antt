@@ -17,7 +17,8 @@ use Rattle.pt_model.specs.declared.command.What.TheVariants.{Dump as DumpLine}
 use Rattle.pt_model.specs.declared.reply.Answer.TheVariants as answering
 use Rattle.pt_view.specs.declared.view.View.{View}
 use Rattle.pt_reply.specs.Telling.{IsListable, has_small_blocks}
-use Rattle.pt_reply.specs.Running.{AnswersAs, IsUncrossed, ListsNext, RestsAsBefore, blocks_of, blocks_over, book_in}
+use Rattle.pt_laws.specs.Covers as covers
+use Rattle.pt_reply.specs.Running.{AnswersAs, IsUncrossed, LeavesIn, ListsNext, RestsAsBefore, blocks_of, blocks_over, book_in, stand_in}
 
 abbrev pub dump_of : ℕ → List Block → Dump
 dump_of count lowest = record { count = count; lowest = lowest }
@@ -190,3 +191,8 @@ dumps_as f v w first count first_is count_is rests (Ok d) h =
       book = rests.book;
     }
 dumps_as f v w first count first_is count_is rests (Err x) h = tt
+
+-- and leaves the book and the purse
+pub dumps_leave : {E : Type 0} (f : Layout) (v w : View) → RestsAsBefore f v w → (r : Result Dump E) → IfOk r (λ d. LeavesIn f v w DumpLine (answering.Dump d))
+dumps_leave f v w rests (Ok d) = covers.dump (stand_in v) (stand_in w) d (record { book = rests.book; purse = ap length rests.purse })
+dumps_leave f v w rests (Err x) = tt

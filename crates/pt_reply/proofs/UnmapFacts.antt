@@ -1,20 +1,24 @@
 -- What the taking away of a range answers, by the book machine.
-use Rattle.std.proofs.Common.{◌≡◌, ℕ, ◌+◌, ◌/◌, ◌^◌, Bool, true, false, Option, Some, None, ap, sym, ◌∙◌, subst}
-use Rattle.std.specs.Prelude.{All, not, option_map, if◌then◌else◌}
+use Rattle.std.proofs.Common.{◌≡◌, ℕ, ◌+◌, ◌/◌, ◌^◌, Bool, true, false, Option, Some, None, refl, ap, sym, ◌∙◌, subst, arith, length, length-append}
+use Rattle.std.specs.Prelude.{All, filter, not, option_map, if◌then◌else◌}
+use Rattle.std.proofs.lemmas.List.Filters.{length-filter_both}
 use Rattle.pt_model.specs.declared.block.Block.{Block}
 use Rattle.pt_model.specs.declared.reply.UnmapAnswer.{UnmapAnswer}
 use Rattle.pt_model.specs.declared.reply.UnmapAnswer.TheVariants as unmapping
 use Rattle.pt_model.specs.Layout.{Layout, IsLegalBlock}
 use Rattle.pt_model.specs.Pages.{page_under, range_at}
-use Rattle.pt_model.specs.Book.{Book, is_inside}
+use Rattle.pt_model.specs.declared.position.Position.{Position}
+use Rattle.pt_model.specs.Book.{Book, is_inside, table_lies_in}
 use Rattle.pt_model.specs.Unmap.{CutRefusal, Misaligned, OutsideLease, CutsEntry, is_cut, lowest_cut, pages_gone, unmap_refusal, unmapped}
 use Rattle.pt_model.specs.Run.{after_unmap, refused_unmap, unmap_answer}
+use Rattle.pt_laws.specs.Covers.{Leaves}
+use Rattle.pt_laws.specs.Covers as covers
 use Rattle.pt_book.proofs.ListFacts.{found_is}
 use Rattle.pt_view.specs.declared.view.View.{View}
 use Rattle.pt_view.specs.Views.{IsAtRest, SameRange}
 use Rattle.pt_sweep.specs.Unmaps.{IsUnmapped}
 use Rattle.pt_reply.specs.Built.{machine}
-use Rattle.pt_reply.specs.Running.{IsReady, AnswersAs, blocks_of, book_in, machine_in}
+use Rattle.pt_reply.specs.Running.{IsReady, AnswersAs, blocks_of, book_in, machine_in, stand_in}
 use Rattle.pt_model.specs.declared.command.What.TheVariants.{Unmap}
 use Rattle.pt_model.specs.declared.reply.Answer.TheVariants as answering
 use Rattle.pt_reply.proofs.RestBlocks.{blocks_are}
@@ -66,6 +70,24 @@ module _ (f : Layout) (v w : View) (ready : IsReady f v) (va len : ℕ) where
 
   same_machine : SameRange v w → machine_in f w ≡ machine_in f v
   same_machine range = λ i. machine f (range.levels i) (range.frames i)
+
+  -- a frame came for each table that went
+  pub leaves_gone : (tells alone : Type 0) (pages : ℕ) → IsUnmapped f tells alone v w (blocks_of v.pieces) first count pages →
+      Leaves (machine_in f v) (Unmap va len) (stand_in v) (stand_in w) (answering.Unmap (unmapping.Unmapped pages))
+  leaves_gone tells alone pages done =
+      let lies : Position → Bool = λ p. table_lies_in f first (first + count) p in
+      let each = done.frees.each in
+      let parts = length-filter_both lies (λ p. not (lies p)) (λ p. refl) v.tables in
+      let left : length w.tables ≡ length (filter (λ p. not (lies p)) v.tables) = ap length done.tables in
+      let came = ap length done.purse.1 in
+      let sum = length-append done.purse.0 v.purse in
+      let now : blocks_of w.pieces ≡ after_it.blocks = blocks_are f w after_it.blocks done.rest in
+      covers.unmap va len (stand_in v) (stand_in w) (unmapping.Unmapped pages) (record {
+        book = λ i. record { first = done.range.first i; count = done.range.count i; blocks = now i; tables = done.tables i; top = done.top i };
+        unlinked = length done.purse.0;
+        purse = omega arith;
+        freed = omega arith;
+      })
 
   -- the range went
   pub unmaps : (tells alone : Type 0) (pages : ℕ) → refusal ≡ None → IsUnmapped f tells alone v w (blocks_of v.pieces) first count pages →

@@ -9,7 +9,7 @@ ghost use Rattle.pt_view.specs.Views.{KeepsRest, Stays};
 ghost use Rattle.pt_walk.specs.RangeWalks.{HasSpan, IsWalking, rested};
 ghost use Rattle.pt_reply.specs.Built.{is_built};
 ghost use Rattle.pt_reply.specs.Telling.{has_small_blocks, IsListable, IsTellable, NamesLegalBlock};
-ghost use Rattle.pt_reply.specs.Running.{IsReady, IsUncrossed, AnswersAs, ListsNext, RestsAsBefore, blocks_over, left_in};
+ghost use Rattle.pt_reply.specs.Running.{IsReady, IsUncrossed, AnswersAs, AnswersInPart, LeavesIn, ListsNext, RestsAsBefore, blocks_over, left_in, map_said};
 
 use pt_format::{Block, Format, Span};
 use pt_map::{MapRefused, map};
@@ -23,21 +23,11 @@ use std::alloc::Global;
 /// The most blocks that a dump lists.
 const DUMP_LIMIT: usize = 1000;
 
-/// Maps a range. Nothing that is linked is set aside, so that the account of frames is that of the holder's book.
-pub(crate) fn map_range<F: Format, H: Holder<F>>(
-    holder: &mut H,
-    va: u64,
-    pa: u64,
-    len: u64,
-    prot: Prot,
-) -> MapAnswer
-    requires ready { IsReady F.layout (H.view holder.old) }
-    requires alone { H.alone holder.old }
-    requires aside { (H.aside holder.old).positions ≡ [] }
-    ensures stays { Stays H.space H.aside H.alone holder.old holder.new }
-    ensures maps { AnswersAs F.layout (H.view holder.old) (H.view holder.new) (what.Map va pa len prot) (answer.Map result) }
+/// The answer to a map.
+fn said(done: Result<(), MapRefused>) -> MapAnswer
+    ensures { result ≡ map_said done }
 {
-    match map::<F, H>(holder, va, pa, len, prot) {
+    match done {
         Ok(()) => MapAnswer::Mapped,
         Err(MapRefused::Misaligned) => MapAnswer::Misaligned,
         Err(MapRefused::OutsideLease) => MapAnswer::Outside,
@@ -47,12 +37,32 @@ pub(crate) fn map_range<F: Format, H: Holder<F>>(
     }
 }
 
+/// Maps a range.
+pub(crate) fn map_range<F: Format, H: Holder<F>>(
+    holder: &mut H,
+    va: u64,
+    pa: u64,
+    len: u64,
+    prot: Prot,
+) -> MapAnswer
+    requires ready { IsReady F.layout (H.view holder.old) }
+    ensures stays { Stays H.space H.aside H.alone holder.old holder.new }
+    ensures maps { AnswersInPart F.layout (H.view holder.old) (H.view holder.new) (what.Map va pa len prot) (answer.Map result) }
+    ensures alone { H.alone holder.old → (H.aside holder.old).positions ≡ [] →
+        AnswersAs F.layout (H.view holder.old) (H.view holder.new) (what.Map va pa len prot) (answer.Map result) }
+{
+    // that the book at rest is lawful is part of the answer
+    let _span = holder.range();
+    said(map::<F, H>(holder, va, pa, len, prot))
+}
+
 /// Takes a range away.
 pub(crate) fn unmap_range<F: Format, H: Holder<F>>(holder: &mut H, va: u64, len: u64) -> UnmapAnswer
     requires small { IsTrue (has_small_blocks F.layout) }
     requires ready { IsReady F.layout (H.view holder.old) }
     ensures stays { Stays H.space H.aside H.alone holder.old holder.new }
     ensures unmaps { AnswersAs F.layout (H.view holder.old) (H.view holder.new) (what.Unmap va len) (answer.Unmap result) }
+    ensures leaves { LeavesIn F.layout (H.view holder.old) (H.view holder.new) (what.Unmap va len) (answer.Unmap result) }
     ensures legal { NamesLegalBlock F.layout result }
 {
     // that the book at rest is lawful is part of the answer
@@ -70,6 +80,7 @@ pub(crate) fn look_up<F: Format, H: Holder<F>>(holder: &mut H, va: u64) -> Looku
     requires ready { IsReady F.layout (H.view holder.old) }
     ensures stays { Stays H.space H.aside H.alone holder.old holder.new }
     ensures finds { AnswersAs F.layout (H.view holder.old) (H.view holder.new) (what.Lookup va) (answer.Lookup result) }
+    ensures leaves { LeavesIn F.layout (H.view holder.old) (H.view holder.new) (what.Lookup va) (answer.Lookup result) }
 {
     match lookup::<F, H>(holder, va) {
         Ok(Some((out, prot))) => LookupAnswer::Found { out, prot },
@@ -147,6 +158,7 @@ fn dump_all<F: Format, H: Holder<F>>(alloc: Global, holder: &mut H) -> Result<Du
     ensures stays { Stays H.space H.aside H.alone holder.old holder.new }
     ensures rests { RestsAsBefore F.layout (H.view holder.old) (H.view holder.new) }
     ensures dumps { IfOk result (λ dump. AnswersAs F.layout (H.view holder.old) (H.view holder.new) what.Dump (answer.Dump dump)) }
+    ensures leaves { IfOk result (λ dump. LeavesIn F.layout (H.view holder.old) (H.view holder.new) what.Dump (answer.Dump dump)) }
     ensures listable { IfOk result (λ dump. All (IsListable F.layout) dump.lowest) }
 {
     let span = holder.range();
@@ -163,7 +175,8 @@ fn release<F: Format, H: Holder<F>>(holder: &mut H)
     holder.release();
 }
 
-/// Answers a command that isn't of a fork. After `Memory` the holder is at rest too.
+/// Answers a command that isn't of a fork. After `Memory` the holder is at rest too. The account of frames is that of the
+/// holder's book where no other holder is there and nothing that is linked is set aside.
 pub fn answer<F: Format, H: Holder<F>>(
     alloc: Global,
     holder: &mut H,
@@ -171,11 +184,11 @@ pub fn answer<F: Format, H: Holder<F>>(
 ) -> Result<Answer, Memory>
     requires small { IsTrue (has_small_blocks F.layout) }
     requires ready { IsReady F.layout (H.view holder.old) }
-    requires alone { H.alone holder.old }
-    requires aside { (H.aside holder.old).positions ≡ [] }
     requires built { IsTrue (is_built what) }
     ensures stays { Stays H.space H.aside H.alone holder.old holder.new }
-    ensures answers { IfOk result (AnswersAs F.layout (H.view holder.old) (H.view holder.new) what) }
+    ensures answers { IfOk result (AnswersInPart F.layout (H.view holder.old) (H.view holder.new) what) }
+    ensures alone { H.alone holder.old → (H.aside holder.old).positions ≡ [] →
+        IfOk result (AnswersAs F.layout (H.view holder.old) (H.view holder.new) what) }
     ensures rests { OnErr result (RestsAsBefore F.layout (H.view holder.old) (H.view holder.new)) }
     ensures tellable { IfOk result (IsTellable F.layout) }
 {

@@ -1,32 +1,25 @@
-use Rattle.std.proofs.Common.{◌≡◌, ◌∙◌, ap, length, subst, arith}
-use Rattle.pt_view.specs.Views.{linked_count}
-use Rattle.pt_map.specs.Answers.{IsShortOf, extent_at, refusal_of}
-use Rattle.pt_reply.specs.Running.{blocks_of}
-use Rattle.pt_reply.proofs.MapFacts.{maps, wants}
+use Rattle.std.proofs.Common.{sym, subst}
+use Rattle.pt_model.specs.declared.command.What.TheVariants.{Map}
+use Rattle.pt_model.specs.declared.reply.Answer.TheVariants as answering
+use Rattle.pt_model.specs.declared.reply.MapAnswer.{MapAnswer}
+use Rattle.pt_reply.specs.Running.{AnswersAs, AnswersInPart, blocks_of}
+use Rattle.pt_reply.proofs.MapFacts.{answers_alone, answers_in_part}
 use Rattle.pt_reply.proofs.commands.map_range.Goals as goal
 
-pub returns-in-Ok-clause-maps : goal.returns-in-Ok-clause-maps
-returns-in-Ok-clause-maps g c =
+pub returns-clause-maps : goal.returns-clause-maps
+returns-clause-maps g c =
     let f = g.F.Format.layout in
     let v = g.H.Holder.view c.args.holder.now in
     let w = g.H.Holder.view c.map.new.holder in
-    let e = c.in-Ok.ensures in
-    let rest = c.requires.ready in
-    let enough = (e.accounted c.requires.alone (blocks_of v.pieces) rest).enough in
-    let none : length (g.H.Holder.aside c.args.holder.now).positions ≡ 0 = ap length c.requires.aside in
-    maps f v w c.requires.ready c.args.va c.args.pa c.args.len c.args.prot
-    (e.answered.accepted (blocks_of v.pieces) rest) (omega arith) (e.answered.mapped (blocks_of v.pieces) rest)
+    subst (λ (a : MapAnswer). AnswersInPart f v w (Map c.args.va c.args.pa c.args.len c.args.prot) (answering.Map a)) (sym c.said.ensures)
+    (answers_in_part f v w c.requires.ready c.args.va c.args.pa c.args.len c.args.prot (c.range-span.ensures.lawful (blocks_of v.pieces) c.requires.ready)
+    g.H.Holder.tells c.map.result c.map.ensures.answered)
 
-pub returns-in-Err-NoFrames-clause-maps : goal.returns-in-Err-NoFrames-clause-maps
-returns-in-Err-NoFrames-clause-maps g c =
+pub returns-clause-alone : goal.returns-clause-alone
+returns-clause-alone g c alone none =
     let f = g.F.Format.layout in
     let v = g.H.Holder.view c.args.holder.now in
     let w = g.H.Holder.view c.map.new.holder in
-    let e = c.in-Err-NoFrames.ensures in
-    let rest = c.requires.ready in
-    let x = extent_at f c.args.va c.args.pa c.args.len c.args.prot in
-    let short = subst (IsShortOf f v (linked_count v (g.H.Holder.aside c.args.holder.now)) (blocks_of v.pieces) x) c.in-Err-NoFrames.field-0-is ((e.accounted c.requires.alone).1 (blocks_of v.pieces) rest) in
-    let more = short.0 in
-    let none : length (g.H.Holder.aside c.args.holder.now).positions ≡ 0 = ap length c.requires.aside in
-    wants f v w c.requires.ready c.args.va c.args.pa c.args.len c.args.prot
-    (e.answered.refused (blocks_of v.pieces) rest ∙ ap refusal_of c.in-Err-NoFrames.field-0-is) (omega arith) e.answered.stays
+    subst (λ (a : MapAnswer). AnswersAs f v w (Map c.args.va c.args.pa c.args.len c.args.prot) (answering.Map a)) (sym c.said.ensures)
+    (answers_alone f v w c.requires.ready c.args.va c.args.pa c.args.len c.args.prot g.H.Holder.tells (g.H.Holder.aside c.args.holder.now) c.map.result none
+    c.map.ensures.answered (c.map.ensures.accounted alone))

@@ -35,7 +35,7 @@ module _ (g : Over) (c : After-answer g) where
   stands =
       let e = c.answer.ensures in
       stands_by g.F.Format.layout s c.self.invariant now.owned e.stays.same_aside c.args.what inside c.requires c.in_default.not-Dump
-      c.answer.result g.met.F.Format.lawful_layout.has_pages e.answers e.rests
+      c.answer.result g.met.F.Format.lawful_layout.has_pages (e.alone tt c.self.invariant.aside) e.rests
 
   abbrev AnswersFrom : Stand → Type 0
   AnswersFrom x = AnswersWith g.F.Format.layout (place_of g.F.Format.layout x) (place_of g.F.Format.layout now) c.args.what c.answer.result
@@ -45,7 +45,7 @@ module _ (g : Over) (c : After-answer g) where
       let e = c.answer.ensures in
       subst AnswersFrom c.self.view_is
       (answers_with g.F.Format.layout s c.self.invariant now.owned e.stays.same_aside c.args.what inside c.requires c.in_default.not-Dump
-      c.answer.result e.answers e.rests e.tellable)
+      c.answer.result (e.alone tt c.self.invariant.aside) e.rests e.tellable)
 
 pub invariant_of-self : goal.invariant_of-self
 invariant_of-self g c = stands g c
