@@ -12,7 +12,7 @@ use Rattle.pt_reply.specs.Telling.{has_small_blocks}
 use Rattle.pt_beside.specs.Places.{Place}
 
 abbrev pub place_of : Layout → Standing → Place
-place_of f s = record { space = s.space.table; machine = machine_in f s.view; book = book_in s.view; purse = length s.view.purse }
+place_of f s = record { space = s.space; machine = machine_in f s.view; book = book_in s.view; purse = length s.view.purse }
 
 -- it is at rest in its space, and has the frames and the levels of it
 pub record IsShared (f : Layout) (space : SpaceId) (s : Standing) (frames levels : ℕ) : Type 0 where

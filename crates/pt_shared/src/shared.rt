@@ -35,7 +35,7 @@ impl<'a, F: Format> Shared<'a, F> {
         requires small { IsTrue (has_small_blocks F.layout) }
         requires space { lease.space ≡ space.now }
         requires ready { IsReady F.layout lease.view }
-        ensures { result ≡ lease }
+        ensures { result ≡ lease.entry }
     {
         let frames = lease.frames();
         let levels = lease.levels();
@@ -51,7 +51,7 @@ impl<'a, F: Format> Shared<'a, F> {
 
     /// The lease, at rest.
     pub fn lease(self) -> Lease<'a, F>
-        ensures same { result ≡ self }
+        ensures same { result ≡ self.entry }
         ensures ready { IsReady F.layout result.view }
     {
         let Shared {
