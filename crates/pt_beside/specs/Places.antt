@@ -1,6 +1,6 @@
 -- Where a part of a space stands, and what its calls leave of it.
 use Rattle.std.specs.Prelude.{◌≡◌, ℕ, ◌+◌, ◌-◌, ◌≤◌, ◌==◌, min, Bool, true, false, Some, IsTrue}
-use Rattle.atomic_table.specs.Seated.{TableId}
+use Rattle.pt_space.specs.Standing.{SpaceId}
 use Rattle.pt_model.specs.declared.command.What.{What}
 use Rattle.pt_model.specs.declared.command.What.TheVariants.{Release}
 use Rattle.pt_model.specs.declared.reply.Answer.{Answer}
@@ -14,8 +14,8 @@ use Rattle.pt_laws.specs.Covers.{Stand, Leaves}
 use Rattle.pt_laws.specs.OneText.{is_call}
 
 pub record Place : Type 0 where
-  -- which space, by the table of its words
-  pub space : TableId
+  -- which space
+  pub space : SpaceId
   pub machine : Machine
   pub book : Book
   -- how many frames its purse has

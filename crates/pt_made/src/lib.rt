@@ -20,7 +20,7 @@ mod needing;
 mod summary;
 
 pub use generating::generate;
-pub use needing::{need, need_of};
+pub use needing::{need, need_of, need_on};
 pub use summary::summary_text;
 
 #[cfg(test)]

@@ -52,8 +52,8 @@ fn need_of_one<F: Format>(levels: u32, frames: u32, what: What) -> u64
     }
 }
 
-/// The sum of what commands need.
-pub(crate) fn need_on<F: Format>(levels: u32, frames: u32, commands: &[Command]) -> u64
+/// The need of commands in a space of this format, as `need_of` says.
+pub fn need_on<F: Format>(levels: u32, frames: u32, commands: &[Command]) -> u64
     requires low { F.layout.start ≤ levels }
     requires high { levels ≤ F.layout.levels }
     requires few { length commands.now < 2 ^ 32 }

@@ -39,6 +39,13 @@ impl<'a, F: Format> Model for Lease<'a, F> {
 }
 
 impl<'a, F: Format> Lease<'a, F> {
+    /// The space of which the lease has a range.
+    pub fn space(&self) -> &'a Space<F>
+        ensures { result.now ≡ self.now.space }
+    {
+        self.space
+    }
+
     /// The pass of a lease at rest.
     pub fn pass(self) -> Pass<F>
         requires path { self.view.path ≡ [] }
