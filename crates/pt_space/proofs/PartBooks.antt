@@ -16,7 +16,7 @@ use Rattle.pt_view.specs.declared.view.View.{View}
 use Rattle.pt_view.specs.declared.view.Node.{Node}
 use Rattle.pt_view.specs.declared.view.Piece.{Piece}
 use Rattle.pt_view.specs.Pieces.{IsLegalPiece, IsOneOf, all_pieces, first_of, level_of, pieces_of}
-use Rattle.pt_view.specs.Views.{book_of}
+use Rattle.pt_view.specs.Views.{Rests, book_of}
 use Rattle.pt_view.proofs.Members.{all_pieces_append, in_block, in_blocks, one_has, one_of_left, one_of_right}
 use Rattle.pt_view.proofs.Pieces.{ends_in_block}
 use Rattle.pt_view.specs.Calls.{is_in_span}
@@ -151,3 +151,8 @@ joins_books {f} v w low high left right = record {
   };
   is = λ i. books.joined (left.is i) (right.is i);
 }
+
+pub joined_rests : {f : Layout} {v w : View} → Rests f v → Rests f w → Rests f (joined v w)
+joined_rests {f} {v} {w} left right =
+    let both = joins_books v w (book_of v left.0) (book_of w right.0) (record { at_rest = left.1; is = refl }) (record { at_rest = right.1; is = refl }) in
+    (left.0 ++ right.0, both.at_rest)

@@ -134,6 +134,7 @@ impl<'a, F: Format> Lease<'a, F> {
         requires rest { Rests F.layout self.view × Rests F.layout right.view }
         ensures ok { IfOk result (λ l. (l.space ≡ self.entry.space) × (l.view ≡ joined self.entry.view right.entry.view)) }
         ensures books { IfOk result (λ l. JoinsBooks F.layout self.entry.view right.entry.view l.view) }
+        ensures rest { IfOk result (λ l. Rests F.layout l.view) }
         ensures err { IfErr result (λ r. (r ≡ (self.entry, right.entry)) × (right.entry.view.first ≢ self.entry.view.first + self.entry.view.count)) }
     {
         if self.first + self.count != right.first {
