@@ -6,5 +6,6 @@ mod Begun
 mod Groups
 mod Moves
 mod Copying
+mod Visiting
 mod Starts
 mod Sounds

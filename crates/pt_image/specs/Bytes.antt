@@ -5,7 +5,7 @@ use Rattle.byteorder.specs.Endian.{little_number}
 use Rattle.pt_model.specs.Layout.{Layout}
 
 -- the number in so many bytes from a place on
-abbrev pub number_at : (offset bytes : ℕ) → List ℕ → ℕ
+unfoldable pub number_at : (offset bytes : ℕ) → List ℕ → ℕ
 number_at offset bytes image = little_number bytes (drop offset image)
 
 -- the length in bytes of an image of n frames

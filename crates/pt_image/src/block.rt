@@ -4,7 +4,7 @@ ghost use Rattle.std.specs.Prelude.{◌≡◌, ℕ, ◌+◌, ◌^◌, ◌<◌, �
 ghost use Rattle.pt_format.specs.Words.{IsLeaf, MayBeLeaf};
 ghost use Rattle.pt_model.specs.Layout.{level_of_size};
 ghost use Rattle.pt_view.specs.Pieces.{words_of};
-ghost use Rattle.pt_image.specs.Checks.{AreWords, IsCopied, IsEntryIn, IsHeaderOf, IsTableIn};
+ghost use Rattle.pt_image.specs.Checks.{AreWords, HasBlock, IsCopied, IsEntryIn, IsHeaderOf, IsTableIn};
 ghost use Rattle.pt_image.specs.Drafts.{group_words};
 
 use crate::bytes::read_entry;
@@ -31,6 +31,7 @@ fn copy_words<F: Format>(
     requires leaf { (part : ℕ) → part < words_of F.layout block → MayBeLeaf F.layout table.level block.log2 block.out block.prot part }
     ensures long { length words.new ≡ length words.old }
     ensures copied { IsTrue result → words.new ≡ group_words F.layout header.now.frames words.old table.frame number block (words_of F.layout block) }
+    ensures has { IsTrue result → HasBlock F.layout image.now table.frame number block (words_of F.layout block) }
 {
     let Block {
         first: _,
@@ -66,7 +67,7 @@ pub(crate) fn copy_block<F: Format>(
     requires entry { IsEntryIn F.layout header.now image.now table entry }
     requires leaf { IsLeaf F.layout table.level entry.word log2 prot }
     ensures long { length words.new ≡ length words.old }
-    ensures copied { IfSome result (λ k. IsCopied F.layout header.now.frames words.old words.new table entry k) }
+    ensures copied { IfSome result (λ k. IsCopied F.layout header.now.frames image.now words.old words.new table entry k) }
 {
     let pages = 1u64 << log2;
     if entry.first + pages > 1 << (F::INPUT - F::GRANULE) {

@@ -12,6 +12,7 @@ pub(crate) const ROOT: usize = 14;
 pub(crate) const ENTRIES: usize = 22;
 
 /// The word in the eight bytes from a place on.
+#[tactic(auto, unfolding(crate::specs::Bytes::number_at))]
 pub(crate) fn read_u64(bytes: &[u8], at: usize) -> u64
     requires { at + 8 ≤ length bytes.now }
     ensures { result ≡ number_at at 8 bytes.now }

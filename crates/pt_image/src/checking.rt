@@ -1,10 +1,11 @@
 //! The check of an image whose header is good.
 
-ghost use Rattle.std.specs.Prelude.{◌≡◌, ℕ, ◌/◌, ◌%◌, ◌+◌, ◌<◌, ◌≤◌, length, IfOk, IfSome};
+ghost use Rattle.std.specs.Prelude.{◌≡◌, ℕ, ◌/◌, ◌%◌, ◌+◌, ◌^◌, ◌<◌, ◌≤◌, length, slice_index, IfNone, IfOk, IfSome};
 ghost use Rattle.pt_model.specs.Words.{root_word};
-ghost use Rattle.pt_image.specs.Bytes.{root_in};
+ghost use Rattle.pt_image.specs.Bytes.{entry_at, root_in};
 ghost use Rattle.pt_image.specs.Checks.{AreWords, IsHeaderOf, IsRootTable};
 ghost use Rattle.pt_image.specs.Drafts.{IsBegun};
+ghost use Rattle.pt_image.specs.Visits.{HasImage, HasNoStray};
 
 use crate::bytes::{ROOT, read_entry, read_u64};
 use crate::fault::{CheckRefused, ImageFault};
@@ -21,6 +22,7 @@ use std::alloc::Global;
 fn first_used<F: Format>(image: &[u8], header: &Header, frame: u32) -> Option<u32>
     requires header { IsHeaderOf F.layout header.now image.now }
     requires a_frame { frame < header.now.frames }
+    ensures { IfNone result ((i : ℕ) → i < 2 ^ F.layout.index → entry_at F.layout image.now frame i ≡ 0) }
 {
     for index in 0..1 << F::INDEX {
         if read_entry::<F>(image, header.frames, frame, index) != 0 {
@@ -34,6 +36,7 @@ fn first_used<F: Format>(image: &[u8], header: &Header, frame: u32) -> Option<u3
 fn first_stray<F: Format>(image: &[u8], header: &Header, words: &[u64]) -> Option<ImageFault>
     requires header { IsHeaderOf F.layout header.now image.now }
     requires words { AreWords F.layout header.now words.now }
+    ensures { IfNone result (HasNoStray F.layout header.now.frames image.now words.now) }
 {
     for frame in 0..header.frames {
         if words[1 + frame as usize] == 0
@@ -81,9 +84,9 @@ fn root_table<F: Format>(header: &Header, image: &[u8]) -> Option<Table>
     }
 }
 
-/// The words of an image of this format, with the tags of its tables, where it is found good: they are sound, so that a
-/// space may be resumed from them. Otherwise what is wrong with it, or `Memory` where there is none for the words. The header
-/// is the image's own, and the image has exactly the bytes that it says.
+/// The words of an image of this format, with the tags of its tables, where it is found good: the root and the entries are the
+/// image's, and the words are sound, so that a space may be resumed from them. Otherwise what is wrong with it, or `Memory`
+/// where there is none for the words. The header is the image's own, and the image has exactly the bytes that it says.
 pub fn check<F: Format>(
     alloc: Global,
     header: &Header,
@@ -91,6 +94,7 @@ pub fn check<F: Format>(
 ) -> Result<Sound<F>, CheckRefused>
     requires { IsHeaderOf F.layout header.now image.now }
     ensures sound { IfOk result (λ s. (s.frames ≡ header.now.frames) × (s.levels ≡ header.now.levels)) }
+    ensures image { IfOk result (λ s. HasImage F.layout header.now.frames image.now s.words) }
 {
     let Some(table) = root_table::<F>(header, image) else {
         return Err(CheckRefused::Fault {

@@ -4,9 +4,9 @@
 //! the trait of formats (`pt_format`). `check` walks the tables of an image once, from the root, and copies each entry that it
 //! accepts into words that meet the rule at every step.
 //!
-//! Promised: the words that it answers meet the rule with one view of the whole space, at rest, that holds no frame, for the
-//! header's frames and levels, whatever the image's bytes are; so a space is resumed from them (`pt_space::Space::resume`).
-//! That the words' entries are the image's, and which fault is named, is not proved.
+//! Promised: the words that it answers have the image's root and entries, and meet the rule with one view of the whole space,
+//! at rest, that holds no frame, for the header's frames and levels, whatever the image's bytes are; so a space is resumed from
+//! them (`pt_space::Space::resume`). Which fault is named, and that one comes only where the image has it, is not proved.
 #![tactic(auto)]
 
 mod block;

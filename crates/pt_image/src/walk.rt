@@ -2,7 +2,7 @@
 
 ghost use Rattle.std.specs.Prelude.{◌≡◌, ◌≢◌, ℕ, ◌+◌, ◌<◌, ◌≤◌, ◌^◌, ◌↔◌, length, IsTrue, IfOk};
 ghost use Rattle.pt_format.specs.Words.{IsTableLevel};
-ghost use Rattle.pt_image.specs.Checks.{AreWords, CopiesTo, GoesOn, IsEntryIn, IsHeaderOf, IsTableIn, position_of};
+ghost use Rattle.pt_image.specs.Checks.{AreWords, CopiesTo, GoesOn, IsEntryIn, IsHeaderOf, IsTableIn, VisitsTo, position_of};
 ghost use Rattle.pt_image.specs.Drafts.{linked_words};
 
 use crate::block::copy_block;
@@ -59,6 +59,7 @@ pub(crate) fn visit<F: Format>(
     requires table { IsTableIn F.layout header.now table }
     ensures long { length words.new ≡ length words.old }
     ensures copies { IfOk result (λ _. CopiesTo F.layout header.now words.old words.new table (2 ^ F.layout.index)) }
+    ensures visits { IfOk result (λ _. VisitsTo F.layout header.now image.now words.old words.new table (2 ^ F.layout.index)) }
 {
     if is_bridge(header, table) && read_entry::<F>(image, header.frames, table.frame, 0) == 0 {
         return Err(table.fault(0, EntryFault::Spine));
@@ -101,7 +102,7 @@ fn enter<F: Format>(
     requires table { IsTableIn F.layout header.now table }
     requires entry { IsEntryIn F.layout header.now image.now table entry }
     ensures long { length words.new ≡ length words.old }
-    ensures goes_on { IfOk result (λ k. GoesOn F.layout header.now words.old words.new table entry.number k) }
+    ensures goes_on { IfOk result (λ k. GoesOn F.layout header.now image.now words.old words.new table entry.number k) }
 {
     match F::read_word(table.level, entry.word) {
         Read::Empty => Ok(1),

@@ -4,9 +4,10 @@ use Rattle.std.proofs.lemmas.Nat.{mod-mul-add, mod_below, one_shl, pow_pos}
 use Rattle.pt_model.specs.declared.block.Block.{Block}
 use Rattle.pt_model.specs.Layout.{input_pages, output_pages, level_of_size, pages_of_table, IsLegalBlock}
 use Rattle.pt_model.specs.Words.{entry_place}
-use Rattle.pt_view.specs.Pieces.{words_of}
+use Rattle.pt_view.specs.Pieces.{word_of, words_of}
+use Rattle.pt_image.specs.Bytes.{entry_at}
 use Rattle.pt_image.specs.Checks.{position_of}
-use Rattle.pt_image.specs.Drafts.{group_words}
+use Rattle.pt_image.specs.Drafts.{group_words, part_of}
 use Rattle.pt_image.proofs.Entries.{entry_multiple}
 use Rattle.pt_image.proofs.Groups.{fits}
 use Rattle.pt_image.proofs.Sizes.{size_few}
@@ -53,6 +54,9 @@ returns-then-log2-INDEX-clause-copied g c =
       stated = leaf.may.stated;
       count_is = one;
       words_are = λ i. slice_set c.args.words.now ((c.entry_place.ensures.place ∙ ap (entry_place f c.args.header.now.frames c.args.table.frame) here) i) (word i);
+      image_has = λ part lt. let zero : part ≡ 0 = omega arith in
+          ap (λ x. entry_at f c.args.image.now c.args.table.frame (c.args.entry.number + x)) zero ∙ ap (entry_at f c.args.image.now c.args.table.frame) (sym here)
+          ∙ sym c.requires.entry.word_is ∙ word ∙ ap (λ x. word_of f (part_of b x)) (sym zero);
     }
 
 pub copy_words-requires : goal.copy_words-requires
@@ -134,4 +138,5 @@ returns-then-copy_words-clause-copied g c =
       stated = leaf.may.stated;
       count_is = count;
       words_are = c.copy_words.ensures.copied c.if-copy_words.true ∙ ap (group_words f c.args.header.now.frames c.args.words.now c.args.table.frame c.args.entry.number b) count;
+      image_has = λ part lt. c.copy_words.ensures.has c.if-copy_words.true part (let e = count in omega arith);
     }

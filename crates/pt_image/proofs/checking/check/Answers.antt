@@ -1,14 +1,20 @@
-use Rattle.std.proofs.Common.{rules, ◌≡◌, ℕ, ◌+◌, ◌-◌, ◌≤◌, ◌^◌, [], ◌++◌, length, take, drop, sym, ap, ◌∙◌, subst, arith}
+use Rattle.std.proofs.Common.{rules, ◌≡◌, ℕ, ◌+◌, ◌-◌, ◌*◌, ◌≤◌, ◌^◌, List, [], ◌++◌, slice_index, length, take, drop, sym, ap, ◌∙◌, subst, arith}
 use Rattle.std.proofs.Math.Seq.{take-append_seam}
 use Rattle.std.proofs.lemmas.Nat.{pow_pos}
 use Rattle.pt_model.specs.declared.position.Position.{Position}
 use Rattle.pt_model.specs.Tables.{spine_position, starting_top}
-use Rattle.pt_space.specs.Saved.{IsSound}
+use Rattle.pt_space.specs.Saved.{IsSound, SavedWords}
+use Rattle.pt_image.specs.Bytes.{root_in}
 use Rattle.pt_image.specs.Checks.{position_of}
 use Rattle.pt_image.specs.Drafts.{HasSpine, IsBegun, Reaches, Stands}
+use Rattle.pt_image.specs.Visits.{HasImage, HasNoStray}
 use Rattle.pt_image.proofs.Sounds.{draft_is_sound}
 use Rattle.pt_image.proofs.Starts.{starts}
+use Rattle.pt_image.proofs.Visiting.{root_back, visited_has}
 use Rattle.pt_image.proofs.checking.check.Goals as goal
+
+written : (xs ys : List ℕ) (k : ℕ) → k ≡ length xs → take k (xs ++ drop (length xs) ys) ≡ xs
+written xs ys k e = ap (λ (j : ℕ). take j (xs ++ drop (length xs) ys)) e ∙ take-append_seam xs (drop (length xs) ys)
 
 pub of-requires : goal.of-requires
 of-requires g c =
@@ -37,5 +43,23 @@ of-requires g c =
     let sound : IsSound f n l c.visit.new.words =
     draft_is_sound f n l top c.visit.new.words end.view end.stands.draft (let t = end.stands.top in omega arith) start (omega arith) low spine end.blocks end.stands.pieces in
     let len : c.in_ok-words.words.len ≡ length c.visit.new.words = (let a = c.visit.ensures.long in let b = c.deref_mut.ensures.len in omega arith) in
-    subst (IsSound f n l) (sym (ap (λ (k : ℕ). take k (c.visit.new.words ++ drop (length c.visit.new.words) c.in_ok-words.words.items)) len
-    ∙ take-append_seam c.visit.new.words (drop (length c.visit.new.words) c.in_ok-words.words.items))) sound
+    subst (IsSound f n l) (sym (written c.visit.new.words c.in_ok-words.words.items c.in_ok-words.words.len len)) sound
+
+pub returns-clause-image : goal.returns-clause-image
+returns-clause-image g c =
+    let f = g.F.Format.layout in
+    let n : ℕ = c.args.header.now.frames in
+    let table = c.in-Some.table in
+    let top : ℕ = table.level in
+    let root = c.in-Some.ensures in
+    let image = c.args.image.now in
+    let begun : IsBegun f n (top + 1) table.frame c.deref_mut.result.now = search rules in
+    let level : top + 1 - 1 ≡ top = omega arith in
+    let root_is : slice_index c.deref_mut.result.now 0 ≡ root_in image =
+    begun.root ∙ ap (λ (k : ℕ). table.frame * 8 + k) level ∙ root_back (root_in image) table.frame top root.frame_is root.level_is in
+    let len : c.in_ok-words.words.len ≡ length c.visit.new.words = (let a = c.visit.ensures.long in let b = c.deref_mut.ensures.len in omega arith) in
+    let kept = written c.visit.new.words c.in_ok-words.words.items c.in_ok-words.words.len len in
+    let no_stray : HasNoStray f n image c.visit.new.words = subst (HasNoStray f n image) (c.deref.ensures.value ∙ kept) c.in_default-first_stray.ensures in
+    let words_are : c.of.result.words ≡ c.visit.new.words = ap (λ (s : SavedWords). s.words) c.of.ensures ∙ kept in
+    subst (HasImage f n image) (sym words_are)
+    (visited_has f n (top + 1) table.frame image c.deref_mut.result.now c.visit.new.words begun root.a_frame root_is c.in_default-visit.ensures.visits no_stray)
