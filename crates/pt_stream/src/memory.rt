@@ -4,6 +4,7 @@ ghost use Rattle.std.specs.Io.{ReadsAtMost, WritesAtMost};
 ghost use Rattle.std.specs.Io.KnownBytes.{ReadConsumes, WriteAppends};
 ghost use Rattle.pt_stream.specs.Causes.{next_count, HasCause};
 ghost use Rattle.pt_stream.specs.Bytes.{CountsGiven};
+ghost use Rattle.pt_stream.specs.Rooms.{told_room, KeepsRoom};
 ghost use Rattle.pt_stream.specs.Devices.{MemoryInput, SureInput, MemoryOutput, after_take, after_put};
 
 use crate::{Failed, Sink, Source};
@@ -146,7 +147,7 @@ impl Source for SureSource {
 
 /// A sink in memory. It takes at most `piece` bytes a call and at most `room` bytes in all. Its
 /// call number `c`, counted from 1, fails where `failing` has `c`, and each call fails once no room
-/// is left. It tells its bytes.
+/// is left. It tells its bytes, and its room where `failing` is empty.
 #[derive(Debug, Drop)]
 pub struct MemorySink {
     bytes: Vec<u8>,
@@ -206,6 +207,8 @@ impl MemorySink {
 impl Sink for MemorySink {
     ghost held = { λ s. Some s.held };
 
+    ghost room = { λ s. told_room s.failing s.room };
+
     ghost faults = { λ s. s.faults };
 
     fn put(&mut self, from: &[u8]) -> Result<usize, Failed>
@@ -213,6 +216,7 @@ impl Sink for MemorySink {
         ensures some { IfOk result (λ n. 0 < n) }
         ensures bound { WritesAtMost result from.now }
         ensures bytes { WriteAppends (Some self.old.held) (Some self.new.held) result from.now }
+        ensures room { KeepsRoom (told_room self.old.failing self.old.room) (told_room self.new.failing self.new.room) (Some self.new.held) result }
         ensures cause { HasCause self.old.faults self.new.faults result }
 
         ensures fails { IsErr result ↔

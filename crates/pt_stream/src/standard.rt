@@ -1,10 +1,11 @@
 // Standard input and output as a source and a sink. What they hold isn't known, so as devices they
-// tell no bytes, over whatever reader or writer.
+// tell no bytes and no room, over whatever reader or writer.
 ghost use Rattle.std.specs.Prelude.{◌≡◌, ◌<◌, length, None, IfOk};
 ghost use Rattle.std.specs.Io.{ReadsAtMost, WritesAtMost};
 ghost use Rattle.std.specs.Io.KnownBytes.{ReadConsumes, WriteAppends};
 ghost use Rattle.pt_stream.specs.Causes.{HasCause};
 ghost use Rattle.pt_stream.specs.Bytes.{CountsGiven};
+ghost use Rattle.pt_stream.specs.Rooms.{KeepsRoom};
 ghost use Rattle.pt_stream.specs.Devices.{StdInput, StdOutput, faults_after};
 
 use crate::{Failed, Sink, Source};
@@ -93,6 +94,8 @@ impl<W: Write> StdSink<W> {
 
 impl<W: Write> Sink for StdSink<W> {
     ghost held = { λ _. None };
+
+    ghost room = { λ _. None };
 
     ghost faults = { λ s. s.faults };
 

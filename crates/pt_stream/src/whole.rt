@@ -1,8 +1,8 @@
 // A whole input, and a whole output.
 ghost use Rattle.std.specs.Prelude.{◌≡◌, ◌↔◌, ℕ, ◌+◌, ◌-◌, ◌^◌, ◌<◌, ◌≤◌, length, vec_len, IfSome, IfOk, OnOk, OnErr, IsErrOf};
-ghost use Rattle.std.specs.Io.KnownBytes.{Appends};
 ghost use Rattle.pt_stream.specs.Causes.{Rose, HasCause};
-ghost use Rattle.pt_stream.specs.Bytes.{ConsumesAll, LeavesEnd, AppendsPart};
+ghost use Rattle.pt_stream.specs.Bytes.{ConsumesAll, LeavesEnd};
+ghost use Rattle.pt_stream.specs.Rooms.{IsCutOff, IsPut};
 
 use crate::{Failed, Sink, Source};
 use std::alloc::Global;
@@ -67,12 +67,13 @@ pub fn read_all<S: Source>(
     }
 }
 
-/// Puts all the bytes. `Failed` comes only where the sink's count of faults rose in this call. The
-/// sink then holds what it held and some of the bytes from the front, but not all. It takes no
-/// memory.
+/// Puts all the bytes. `Failed` comes only where the sink's count of faults rose in this call, and where
+/// the sink tells its room exactly where the bytes are longer than what was left of it. The sink then
+/// holds what it held and some of the bytes from the front, but not all. It takes no memory.
 pub fn write_all<K: Sink>(sink: &mut K, bytes: &[u8]) -> Result<(), Failed>
-    ensures all { OnOk result (Appends (K.held sink.old) (K.held sink.new) bytes.now) }
-    ensures part { OnErr result (AppendsPart (K.held sink.old) (K.held sink.new) bytes.now) }
+    ensures all { OnOk result (IsPut (K.room sink.old) (K.held sink.old) (K.held sink.new) bytes.now) }
+    ensures part { OnErr result (IsCutOff (K.room sink.old) (K.held sink.old) (K.held sink.new) bytes.now) }
+    ensures room { K.room sink.new ≡ K.room sink.old }
     ensures cause { HasCause (K.faults sink.old) (K.faults sink.new) result }
 {
     let mut done = 0;
