@@ -21,7 +21,7 @@ mod Counting
 pub mod Purses
 pub mod Loop
 mod Covering
-mod Whole
+pub mod Whole
 mod Calm
 -- The definitions at numbers.
 mod NeedCases

@@ -21,7 +21,7 @@ use Rattle.pt_run.specs.Scripted.{Closes}
 
 -- Each reply has a text: where those of two lists have, and to what is asked.
 
-told_both : (f : Layout) (rs ss : List Reply) → AreTold (IsTellable f) rs → AreTold (IsTellable f) ss → AreTold (IsTellable f) (rs ++ ss)
+pub told_both : (f : Layout) (rs ss : List Reply) → AreTold (IsTellable f) rs → AreTold (IsTellable f) ss → AreTold (IsTellable f) (rs ++ ss)
 told_both f [] ss left right = right
 told_both f (r ∷ rs) ss left right = (left.0, told_both f rs ss left.1 right)
 
@@ -29,7 +29,7 @@ told_one : (f : Layout) (m : Machine) (book : Book) (what : AskWhat) → IsTella
 told_one f m book (Walk va) = tt
 told_one f m book Census = tt
 
-told_asks : (f : Layout) (m : Machine) (book : Book) (asks : List Ask) → AreTold (IsTellable f) (ask_replies m book asks)
+pub told_asks : (f : Layout) (m : Machine) (book : Book) (asks : List Ask) → AreTold (IsTellable f) (ask_replies m book asks)
 told_asks f m book [] = tt
 told_asks f m book (a ∷ asks) = (told_one f m book a.what, told_asks f m book asks)
 
