@@ -12,7 +12,8 @@ use Rattle.pt_stream.specs.declared.whole.ReadError.TheVariants as reading
 use Rattle.pt_script.specs.declared.error.ScriptError.{ScriptError}
 use Rattle.pt_script.specs.declared.error.ScriptError.TheVariants as script
 use Rattle.pt_script.specs.Text.{IsBadAt}
-use Rattle.iopt.specs.Words.{AskToMake, AskToRun}
+use Rattle.iopt.specs.declared.words.Branches.{Branches}
+use Rattle.iopt.specs.Words.{AskToMake, AskToRunBy}
 use Rattle.iopt.specs.Runs.{IsAnswered, IsMadeText, IsScript}
 
 -- the most bytes of an input
@@ -50,13 +51,13 @@ pub record IsRead (text : List ℕ) (left' : Option (List ℕ)) : Type 0 where
   pub all : left' ≡ Some []
 
 -- the whole input was read, it is answered, and of the replies so much was put
-abbrev pub PutReplies : (left left' : Option (List ℕ)) → (Put : List ℕ → Type 0) → Type 0
-PutReplies None left' Put = Unit {0}
-PutReplies (Some text) left' Put = IsRead text left' × ((replies : List ℕ) × IsAnswered text replies × Put replies)
+abbrev pub PutReplies : Branches → (left left' : Option (List ℕ)) → (Put : List ℕ → Type 0) → Type 0
+PutReplies branches None left' Put = Unit {0}
+PutReplies branches (Some text) left' Put = IsRead text left' × ((replies : List ℕ) × IsAnswered branches text replies × Put replies)
 
 -- what was put, all or a part, is the replies to the input, or the summary of the made script, as the words ask
 pub record PutAsAsked (words : List (List ℕ)) (left left' : Option (List ℕ)) (Put : List ℕ → Type 0) : Type 0 where
-  pub run : AskToRun words → PutReplies left left' Put
+  pub run : (branches : Branches) → AskToRunBy words branches → PutReplies branches left left' Put
   pub make : (number : ℕ) → AskToMake words number → (text : List ℕ) × IsMadeText number text × Put text
 
 -- the whole input was read, and it is refused at this line

@@ -23,6 +23,7 @@ use pt_script::{Script, parse};
 use pt_stream::{MemorySink, SureSource, push_dec, push_hex};
 use std::alloc::Global;
 use std::test::Fail;
+use std::thread::Threads;
 
 /// A format, by its name in a script and the log2 of the bytes of its pages, and numbers of frames to run scripts in.
 /// The input space ends at `end`, which is 0 for `2^64`, and its last page begins at `last`; so for the outputs.
@@ -384,15 +385,29 @@ fn replies_by_book(alloc: Global, script: &Script) -> Result<Vec<u8>, Fail> {
 /// The most bytes of a test's replies.
 const ROOM: usize = 0x4_0000;
 
-/// Whether the program puts what the book answers to a script.
-fn agree(alloc: Global, text: &[u8]) -> Result<bool, Fail> {
+/// What the program puts for a script with these words.
+fn put_for<R: Threads + Sync>(
+    rt: &R,
+    alloc: Global,
+    words: &Words,
+    text: &[u8],
+) -> Result<(Status, MemorySink), Fail> {
+    let mut source = SureSource::new(Vec::from_slice(alloc, text)?);
+    let mut sink = MemorySink::new(alloc, ROOM, ROOM, Vec::new(alloc))?;
+    let status = run(rt, alloc, words, &mut source, &mut sink, &pt_run::Open);
+    Ok((status, sink))
+}
+
+/// Whether the program puts what the book answers to a script: with its forks in turn, or, where it has none, on a shared space.
+fn agree<R: Threads + Sync>(rt: &R, alloc: Global, text: &[u8]) -> Result<bool, Fail> {
     let script = parse(alloc, text)?;
     let expected = replies_by_book(alloc, &script)?;
     let mut words = Words::new(alloc);
     words.push("run")?;
-    let mut source = SureSource::new(Vec::from_slice(alloc, text)?);
-    let mut sink = MemorySink::new(alloc, ROOM, ROOM, Vec::new(alloc))?;
-    let status = run(alloc, &words, &mut source, &mut sink);
+    if script.body.commands().iter().any(|c| c.what == What::With) {
+        words.push("--plain")?;
+    }
+    let (status, sink) = put_for(rt, alloc, &words, text)?;
     Ok(status == Status::Done && !expected.is_empty() && sink.bytes() == expected.as_slice())
 }
 
@@ -442,7 +457,8 @@ const ASKS: &[u8] =
 
 /// Whether the program and the book agree on these lines, in so many frames of which half are held, and on what is asked
 /// behind them.
-pub(crate) fn agree_in(
+pub(crate) fn agree_in<R: Threads + Sync>(
+    rt: &R,
     alloc: Global,
     format: FormatCase,
     frames: u32,
@@ -461,15 +477,20 @@ pub(crate) fn agree_in(
     text.push(b'\n')?;
     text.extend_from_slice(ASKS)?;
     text.extend_from_slice(b"end\n")?;
-    agree(alloc, &text)
+    agree(rt, alloc, &text)
 }
 
 /// Whether the program and the book agree on these lines of pages of 4 KiB, or of the format's pages in their place, in
 /// each number of frames of a format.
-fn agree_in_frames(alloc: Global, format: FormatCase, lines: &[u8]) -> Result<bool, Fail> {
+fn agree_in_frames<R: Threads + Sync>(
+    rt: &R,
+    alloc: Global,
+    format: FormatCase,
+    lines: &[u8],
+) -> Result<bool, Fail> {
     let lines = scaled_lines(alloc, lines, format.granule.saturating_sub(12) % 64)?;
     for frames in format.frames {
-        if !agree_in(alloc, format, frames, &lines)? {
+        if !agree_in(rt, alloc, format, frames, &lines)? {
             return Ok(false);
         }
     }
@@ -477,9 +498,13 @@ fn agree_in_frames(alloc: Global, format: FormatCase, lines: &[u8]) -> Result<bo
 }
 
 /// The same, in each format.
-pub(crate) fn agree_everywhere(alloc: Global, lines: &[u8]) -> Result<bool, Fail> {
+pub(crate) fn agree_everywhere<R: Threads + Sync>(
+    rt: &R,
+    alloc: Global,
+    lines: &[u8],
+) -> Result<bool, Fail> {
     for format in FORMATS {
-        if !agree_in_frames(alloc, format, lines)? {
+        if !agree_in_frames(rt, alloc, format, lines)? {
             return Ok(false);
         }
     }
@@ -586,7 +611,7 @@ fn mixed_commands_are_answered_as_by_the_book(rt: HostRuntime) -> Result<(), Fai
         push_line(&mut lines, mixed(line))?;
     }
     for format in FORMATS {
-        assert!(rt; agree_in(rt.alloc(), format, 16, &lines)?);
+        assert!(rt; agree_in(&rt, rt.alloc(), format, 16, &lines)?);
     }
     Ok(())
 }

@@ -48,7 +48,7 @@ const DUMPS: [(&[u8], &[u8]); 8] = [
 #[test]
 fn dumps_list_their_blocks(rt: HostRuntime) -> Result<(), Fail> {
     for (text, replies) in DUMPS {
-        let (status, sink) = outcome(rt.alloc(), text, ROOM)?;
+        let (status, sink) = outcome(&rt, rt.alloc(), text, ROOM)?;
         assert_eq!(rt; status, Status::Done);
         assert_eq!(rt; sink.bytes(), replies);
     }
@@ -91,7 +91,7 @@ fn a_dump_counts_all_and_lists_a_thousand(rt: HostRuntime) -> Result<(), Fail> {
         push_hex(&mut text, u64::wrapping_mul(pages, 0x1000))?;
         text.extend_from_slice(b" rw\ndump\nclose\nend\n")?;
         let expected = pages_dumped(rt.alloc(), pages)?;
-        let (status, sink) = outcome(rt.alloc(), &text, 0x2_0000)?;
+        let (status, sink) = outcome(&rt, rt.alloc(), &text, 0x2_0000)?;
         assert_eq!(rt; status, Status::Done);
         assert_eq!(rt; sink.bytes(), expected.as_slice());
     }

@@ -4,9 +4,11 @@ use crate::status::Status;
 use crate::tests::{ROOM, outcome};
 use crate::top::run;
 use crate::words::Words;
+use pt_run::Open;
 use pt_stream::{MemorySink, SureSource};
 use std::alloc::Global;
 use std::test::Fail;
+use std::thread::Threads;
 
 /// Each script, with its replies.
 const RUNS: [(&[u8], &[u8]); 4] = [
@@ -39,7 +41,7 @@ const RUNS: [(&[u8], &[u8]); 4] = [
 #[test]
 fn scripts_with_forks_are_answered(rt: HostRuntime) -> Result<(), Fail> {
     for (text, replies) in RUNS {
-        let (status, sink) = outcome(rt.alloc(), text, ROOM)?;
+        let (status, sink) = outcome(&rt, rt.alloc(), text, ROOM)?;
         assert_eq!(rt; status, Status::Done);
         assert_eq!(rt; sink.bytes(), replies);
     }
@@ -47,7 +49,8 @@ fn scripts_with_forks_are_answered(rt: HostRuntime) -> Result<(), Fail> {
 }
 
 /// How a run with two words ends, over this input, what it puts, and how much of the input is left.
-fn outcome_of(
+fn outcome_of<R: Threads + Sync>(
+    rt: &R,
     alloc: Global,
     first: &str,
     second: &str,
@@ -58,11 +61,11 @@ fn outcome_of(
     words.push(second)?;
     let mut source = SureSource::new(Vec::from_slice(alloc, text)?);
     let mut sink = MemorySink::new(alloc, ROOM, ROOM, Vec::new(alloc))?;
-    let status = run(alloc, &words, &mut source, &mut sink);
+    let status = run(rt, alloc, &words, &mut source, &mut sink, &Open);
     let mut left = MemorySink::new(alloc, ROOM, ROOM, Vec::new(alloc))?;
     let mut only = Words::new(alloc);
     only.push("run")?;
-    let after = run(alloc, &only, &mut source, &mut left);
+    let after = run(rt, alloc, &only, &mut source, &mut left, &Open);
     let kept = if after == Status::Done { text.len() } else { 0 };
     Ok((status, sink, kept))
 }
@@ -76,10 +79,10 @@ const ASKED: (&[u8], &[u8]) = (
 
 #[test]
 fn one_owner_is_asked_for_by_a_second_word(rt: HostRuntime) -> Result<(), Fail> {
-    let (status, sink, _) = outcome_of(rt.alloc(), "run", "--plain", ASKED.0)?;
+    let (status, sink, _) = outcome_of(&rt, rt.alloc(), "run", "--plain", ASKED.0)?;
     assert_eq!(rt; status, Status::Done);
     assert_eq!(rt; sink.bytes(), ASKED.1);
-    let (status, sink) = outcome(rt.alloc(), ASKED.0, ROOM)?;
+    let (status, sink) = outcome(&rt, rt.alloc(), ASKED.0, ROOM)?;
     assert_eq!(rt; status, Status::Done);
     assert_eq!(rt; sink.bytes(), ASKED.1);
     Ok(())
@@ -87,17 +90,17 @@ fn one_owner_is_asked_for_by_a_second_word(rt: HostRuntime) -> Result<(), Fail> 
 
 #[test]
 fn a_number_makes_one_script(rt: HostRuntime) -> Result<(), Fail> {
-    let (status, sink, kept) = outcome_of(rt.alloc(), "make", "0", ASKED.0)?;
+    let (status, sink, kept) = outcome_of(&rt, rt.alloc(), "make", "0", ASKED.0)?;
     assert_eq!(rt; status, Status::Done);
     assert!(rt;
         sink.bytes()
             .starts_with(b"made 0 format amdv1 lines 4015\n")
     );
     assert_eq!(rt; kept, ASKED.0.len(), "the input is as it was");
-    let (_, again, _) = outcome_of(rt.alloc(), "make", "0", b"")?;
+    let (_, again, _) = outcome_of(&rt, rt.alloc(), "make", "0", b"")?;
     assert_eq!(rt; again.bytes(), sink.bytes());
     for (first, second) in [("make", "00"), ("make", ""), ("run", "x"), ("make", "0x0")] {
-        let (status, sink, kept) = outcome_of(rt.alloc(), first, second, ASKED.0)?;
+        let (status, sink, kept) = outcome_of(&rt, rt.alloc(), first, second, ASKED.0)?;
         assert_eq!(rt; status, Status::Usage);
         assert_eq!(rt; sink.bytes().len(), 0);
         assert_eq!(rt; kept, ASKED.0.len());

@@ -5,7 +5,7 @@
 //! `run` does all that the program does, over any source and sink; it promises that at `Done` the whole input
 //! was read, that it is the text of a script, and that the bytes appended are the text of that script's run; or,
 //! where the words ask for a made script, that they are the summary of its run. `main` makes the real words,
-//! input and output, calls it, and prints the line of its status.
+//! input and output, and the gate that lets every branch through, calls it, and prints the line of its status.
 #![tactic(auto)]
 
 ghost use Rattle.std.specs.Prelude.{◌≡◌, IfErr};
@@ -14,11 +14,17 @@ ghost use Rattle.iopt.specs.Ends.{exit_code};
 ghost use Rattle.iopt.specs.Top.{IsUnread, IsUnreadBy};
 
 #[cfg(test)]
+mod beside_tests;
+#[cfg(test)]
 mod book_tests;
+#[cfg(test)]
+mod device_tests;
 #[cfg(test)]
 mod dump_tests;
 #[cfg(test)]
 mod fork_tests;
+#[cfg(test)]
+mod gate_tests;
 mod running;
 #[cfg(test)]
 mod script_tests;
@@ -35,6 +41,7 @@ mod words;
 use crate::status::{Status, status_text};
 use crate::top::run;
 use crate::words::Words;
+use pt_run::Open;
 use pt_stream::{StdSink, StdSource};
 use std::process::ExitCode;
 use std::{env, io};
@@ -74,7 +81,7 @@ fn main(rt: HostRuntime) -> ExitCode {
         Ok(words) => {
             let mut source = StdSource::new(rt.stdin());
             let mut sink = StdSink::new(rt.stdout());
-            run(rt.alloc(), &words, &mut source, &mut sink)
+            run(&rt, rt.alloc(), &words, &mut source, &mut sink, &Open)
         }
         Err(status) => status,
     };

@@ -46,7 +46,7 @@ const MAPS: [&[u8]; 7] = [
 #[test]
 fn maps_are_answered_as_by_the_book(rt: HostRuntime) -> Result<(), Fail> {
     for lines in MAPS {
-        assert!(rt; agree_everywhere(rt.alloc(), lines)?);
+        assert!(rt; agree_everywhere(&rt, rt.alloc(), lines)?);
     }
     Ok(())
 }
@@ -91,7 +91,7 @@ fn the_space_has_its_ends(rt: HostRuntime) -> Result<(), Fail> {
         for what in at_the_ends(format) {
             push_line(&mut lines, what)?;
         }
-        assert!(rt; agree_in(rt.alloc(), format, 60, &lines)?);
+        assert!(rt; agree_in(&rt, rt.alloc(), format, 60, &lines)?);
     }
     Ok(())
 }

@@ -5,6 +5,7 @@ use crate::book_tests::{FORMATS, FormatCase, agree_everywhere, agree_in, push_li
 use pt_model::{Prot, What};
 use std::alloc::Global;
 use std::test::Fail;
+use std::thread::Threads;
 
 /// Forks that are cut, with what reaches out of each part.
 const PARTS: [&[u8]; 9] = [
@@ -43,7 +44,7 @@ const PARTS: [&[u8]; 9] = [
 #[test]
 fn each_part_is_answered_by_its_span(rt: HostRuntime) -> Result<(), Fail> {
     for lines in PARTS {
-        assert!(rt; agree_everywhere(rt.alloc(), lines)?);
+        assert!(rt; agree_everywhere(&rt, rt.alloc(), lines)?);
     }
     Ok(())
 }
@@ -89,7 +90,7 @@ const REFUSED: [&[u8]; 9] = [
 #[test]
 fn refused_forks_answer_nothing(rt: HostRuntime) -> Result<(), Fail> {
     for lines in REFUSED {
-        assert!(rt; agree_everywhere(rt.alloc(), lines)?);
+        assert!(rt; agree_everywhere(&rt, rt.alloc(), lines)?);
     }
     Ok(())
 }
@@ -133,7 +134,7 @@ const NESTED: [&[u8]; 8] = [
 #[test]
 fn forks_in_forks_are_answered(rt: HostRuntime) -> Result<(), Fail> {
     for lines in NESTED {
-        assert!(rt; agree_everywhere(rt.alloc(), lines)?);
+        assert!(rt; agree_everywhere(&rt, rt.alloc(), lines)?);
     }
     Ok(())
 }
@@ -165,7 +166,7 @@ const RELEASES: [&[u8]; 6] = [
 #[test]
 fn releases_change_no_answer(rt: HostRuntime) -> Result<(), Fail> {
     for lines in RELEASES {
-        assert!(rt; agree_everywhere(rt.alloc(), lines)?);
+        assert!(rt; agree_everywhere(&rt, rt.alloc(), lines)?);
     }
     Ok(())
 }
@@ -197,7 +198,7 @@ const FRAMES: [&[u8]; 5] = [
 #[test]
 fn frames_run_out_in_a_branch(rt: HostRuntime) -> Result<(), Fail> {
     for lines in FRAMES {
-        assert!(rt; agree_everywhere(rt.alloc(), lines)?);
+        assert!(rt; agree_everywhere(&rt, rt.alloc(), lines)?);
     }
     Ok(())
 }
@@ -220,7 +221,7 @@ const SHARED_TABLES: [&[u8]; 3] = [
 #[test]
 fn tables_of_both_sides_are_counted_once(rt: HostRuntime) -> Result<(), Fail> {
     for lines in SHARED_TABLES {
-        assert!(rt; agree_everywhere(rt.alloc(), lines)?);
+        assert!(rt; agree_everywhere(&rt, rt.alloc(), lines)?);
     }
     Ok(())
 }
@@ -248,7 +249,7 @@ const DUMPS: [&[u8]; 5] = [
 #[test]
 fn dumps_tell_the_present_span(rt: HostRuntime) -> Result<(), Fail> {
     for lines in DUMPS {
-        assert!(rt; agree_everywhere(rt.alloc(), lines)?);
+        assert!(rt; agree_everywhere(&rt, rt.alloc(), lines)?);
     }
     Ok(())
 }
@@ -326,7 +327,7 @@ const PAGE_BORDERS: [&[u8]; 13] = [
 #[test]
 fn cuts_stand_between_pages(rt: HostRuntime) -> Result<(), Fail> {
     for lines in PAGE_BORDERS {
-        assert!(rt; agree_everywhere(rt.alloc(), lines)?);
+        assert!(rt; agree_everywhere(&rt, rt.alloc(), lines)?);
     }
     Ok(())
 }
@@ -358,7 +359,7 @@ const BLOCK_BORDERS: [&[u8]; 6] = [
 #[test]
 fn cuts_stand_between_blocks(rt: HostRuntime) -> Result<(), Fail> {
     for lines in BLOCK_BORDERS {
-        assert!(rt; agree_everywhere(rt.alloc(), lines)?);
+        assert!(rt; agree_everywhere(&rt, rt.alloc(), lines)?);
     }
     Ok(())
 }
@@ -422,11 +423,11 @@ fn push_right_forks(out: &mut Vec<u8>, step: u64) -> Result<(), Fail> {
 const STEPS: [u64; 3] = [0x1000, 0x20_0000, 0x4000_0000];
 
 /// Whether the program and the book agree on these lines of pages of 4 KiB, in each format, in many frames and in few.
-fn agree_on_deep(alloc: Global, lines: &[u8]) -> Result<bool, Fail> {
+fn agree_on_deep<R: Threads + Sync>(rt: &R, alloc: Global, lines: &[u8]) -> Result<bool, Fail> {
     for format in FORMATS {
         let lines = scaled_lines(alloc, lines, format.granule.saturating_sub(12) % 64)?;
-        if !agree_in(alloc, format, 60, &lines)?
-            || !agree_in(alloc, format, format.frames[2], &lines)?
+        if !agree_in(rt, alloc, format, 60, &lines)?
+            || !agree_in(rt, alloc, format, format.frames[2], &lines)?
         {
             return Ok(false);
         }
@@ -439,7 +440,7 @@ fn left_parts_go_sixteen_deep(rt: HostRuntime) -> Result<(), Fail> {
     for step in STEPS {
         let mut lines = Vec::new(rt.alloc());
         push_left_forks(&mut lines, step)?;
-        assert!(rt; agree_on_deep(rt.alloc(), &lines)?);
+        assert!(rt; agree_on_deep(&rt, rt.alloc(), &lines)?);
     }
     Ok(())
 }
@@ -449,7 +450,7 @@ fn right_parts_go_sixteen_deep(rt: HostRuntime) -> Result<(), Fail> {
     for step in STEPS {
         let mut lines = Vec::new(rt.alloc());
         push_right_forks(&mut lines, step)?;
-        assert!(rt; agree_on_deep(rt.alloc(), &lines)?);
+        assert!(rt; agree_on_deep(&rt, rt.alloc(), &lines)?);
     }
     Ok(())
 }
@@ -468,7 +469,7 @@ fn more_than_a_thousand_blocks_are_counted(rt: HostRuntime) -> Result<(), Fail> 
     for format in FORMATS {
         for lines in MANY {
             let lines = scaled_lines(rt.alloc(), lines, format.granule.saturating_sub(12) % 64)?;
-            assert!(rt; agree_in(rt.alloc(), format, 60, &lines)?);
+            assert!(rt; agree_in(&rt, rt.alloc(), format, 60, &lines)?);
         }
     }
     Ok(())
@@ -519,11 +520,15 @@ fn push_cuts(out: &mut Vec<u8>, format: FormatCase) -> Result<(), Fail> {
 }
 
 /// Whether the program and the book agree on cuts around each border of a format.
-fn agree_on_cuts(alloc: Global, format: FormatCase) -> Result<bool, Fail> {
+fn agree_on_cuts<R: Threads + Sync>(
+    rt: &R,
+    alloc: Global,
+    format: FormatCase,
+) -> Result<bool, Fail> {
     let mut lines = Vec::new(alloc);
     push_cuts(&mut lines, format)?;
     for frames in format.frames {
-        if !agree_in(alloc, format, frames, &lines)? {
+        if !agree_in(rt, alloc, format, frames, &lines)? {
             return Ok(false);
         }
     }
@@ -533,7 +538,7 @@ fn agree_on_cuts(alloc: Global, format: FormatCase) -> Result<bool, Fail> {
 #[test]
 fn spans_are_cut_around_each_border(rt: HostRuntime) -> Result<(), Fail> {
     for format in FORMATS {
-        assert!(rt; agree_on_cuts(rt.alloc(), format)?);
+        assert!(rt; agree_on_cuts(&rt, rt.alloc(), format)?);
     }
     Ok(())
 }

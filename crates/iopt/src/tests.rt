@@ -3,10 +3,12 @@
 use crate::status::{Status, status_text};
 use crate::top::run;
 use crate::words::Words;
+use pt_run::Open;
 use pt_script::Reason;
 use pt_stream::{MemorySink, MemorySource, SureSource};
 use std::alloc::Global;
 use std::test::Fail;
+use std::thread::Threads;
 
 const FIRST_PATH: &[u8] =
     b"format vtdss3\nframes 16\nhold 0\nmap 0x1000 0x200000 0x1000 rw\nlookup 0x1abc\nmap 0x1000 0x3000 0x1000 r\nmap 0x1234 0x3000 0x1000 r\nmap 0x8000000000 0x0 0x1000 r\nlookup 0x2000\nlookup 0x8000000000\nclose\nend\n";
@@ -23,7 +25,8 @@ fn one_word(alloc: Global, word: &str) -> Result<Words, Fail> {
 }
 
 /// How a run of a text ends, and what it puts into a sink with so much room.
-pub(crate) fn outcome(
+pub(crate) fn outcome<R: Threads + Sync>(
+    rt: &R,
     alloc: Global,
     text: &[u8],
     room: usize,
@@ -31,7 +34,7 @@ pub(crate) fn outcome(
     let words = one_word(alloc, "run")?;
     let mut source = SureSource::new(Vec::from_slice(alloc, text)?);
     let mut sink = MemorySink::new(alloc, room, ROOM, Vec::new(alloc))?;
-    let status = run(alloc, &words, &mut source, &mut sink);
+    let status = run(rt, alloc, &words, &mut source, &mut sink, &Open);
     Ok((status, sink))
 }
 
@@ -43,7 +46,7 @@ fn the_first_path(rt: HostRuntime) -> Result<(), Fail> {
         let bytes = Vec::from_slice(rt.alloc(), FIRST_PATH)?;
         let mut source = MemorySource::new(bytes, piece, Vec::new(rt.alloc()));
         let mut sink = MemorySink::new(rt.alloc(), ROOM, 5, Vec::new(rt.alloc()))?;
-        let status = run(rt.alloc(), &words, &mut source, &mut sink);
+        let status = run(&rt, rt.alloc(), &words, &mut source, &mut sink, &Open);
         assert_eq!(rt; status, Status::Done);
         assert_eq!(rt; sink.bytes(), FIRST_REPLIES);
     }
@@ -57,7 +60,7 @@ fn each_fault_of_a_device_ends_the_run(rt: HostRuntime) -> Result<(), Fail> {
         let bytes = Vec::from_slice(rt.alloc(), FIRST_PATH)?;
         let mut source = MemorySource::new(bytes, 7, vec![in rt.alloc(); call]?);
         let mut sink = MemorySink::new(rt.alloc(), ROOM, ROOM, Vec::new(rt.alloc()))?;
-        let status = run(rt.alloc(), &words, &mut source, &mut sink);
+        let status = run(&rt, rt.alloc(), &words, &mut source, &mut sink, &Open);
         assert_eq!(rt;
             status,
             Status::ReadFault,
@@ -69,7 +72,7 @@ fn each_fault_of_a_device_ends_the_run(rt: HostRuntime) -> Result<(), Fail> {
         let put = 5 * (call - 1);
         let mut source = SureSource::new(Vec::from_slice(rt.alloc(), FIRST_PATH)?);
         let mut sink = MemorySink::new(rt.alloc(), ROOM, 5, vec![in rt.alloc(); call as u64]?)?;
-        let status = run(rt.alloc(), &words, &mut source, &mut sink);
+        let status = run(&rt, rt.alloc(), &words, &mut source, &mut sink, &Open);
         assert_eq!(rt; status, Status::WriteFault, "call {call} of the sink fails");
         assert_eq!(rt; sink.bytes(), &FIRST_REPLIES[..put]);
     }
@@ -84,11 +87,11 @@ fn other_words_leave_the_input(rt: HostRuntime) -> Result<(), Fail> {
         let mut sink = MemorySink::new(rt.alloc(), ROOM, ROOM, Vec::new(rt.alloc()))?;
         let other = one_word(rt.alloc(), word)?;
         assert_eq!(rt;
-            run(rt.alloc(), &other, &mut source, &mut sink),
+            run(&rt, rt.alloc(), &other, &mut source, &mut sink, &Open),
             Status::Usage
         );
         assert_eq!(rt;
-            run(rt.alloc(), &words, &mut source, &mut sink),
+            run(&rt, rt.alloc(), &words, &mut source, &mut sink, &Open),
             Status::Usage
         );
         assert_eq!(rt; sink.bytes().len(), 0);
@@ -98,12 +101,12 @@ fn other_words_leave_the_input(rt: HostRuntime) -> Result<(), Fail> {
     let mut source = SureSource::new(Vec::from_slice(rt.alloc(), FIRST_PATH)?);
     let mut sink = MemorySink::new(rt.alloc(), ROOM, ROOM, Vec::new(rt.alloc()))?;
     assert_eq!(rt;
-        run(rt.alloc(), &words, &mut source, &mut sink),
+        run(&rt, rt.alloc(), &words, &mut source, &mut sink, &Open),
         Status::Usage
     );
     let only = one_word(rt.alloc(), "run")?;
     assert_eq!(rt;
-        run(rt.alloc(), &only, &mut source, &mut sink),
+        run(&rt, rt.alloc(), &only, &mut source, &mut sink, &Open),
         Status::Done,
         "the input is still there"
     );
@@ -137,7 +140,7 @@ const ANSWERED: [(&[u8], &[u8]); 4] = [
 #[test]
 fn scripts_are_answered(rt: HostRuntime) -> Result<(), Fail> {
     for (text, replies) in ANSWERED {
-        let (status, sink) = outcome(rt.alloc(), text, ROOM)?;
+        let (status, sink) = outcome(&rt, rt.alloc(), text, ROOM)?;
         assert_eq!(rt; status, Status::Done);
         assert_eq!(rt; sink.bytes(), replies);
     }
@@ -197,7 +200,7 @@ const REFUSED: [(&[u8], u32, Reason); 10] = [
 #[test]
 fn inputs_are_refused_at_their_first_bad_line(rt: HostRuntime) -> Result<(), Fail> {
     for (text, line, reason) in REFUSED {
-        let (status, sink) = outcome(rt.alloc(), text, ROOM)?;
+        let (status, sink) = outcome(&rt, rt.alloc(), text, ROOM)?;
         assert_eq!(rt; status, Status::Refused { line, reason });
         assert_eq!(rt; sink.bytes().len(), 0);
     }
@@ -216,7 +219,7 @@ const EACH_REPLY: (&[u8], &[u8]) = (
 
 #[test]
 fn each_reply_has_its_text(rt: HostRuntime) -> Result<(), Fail> {
-    let (status, sink) = outcome(rt.alloc(), EACH_REPLY.0, ROOM)?;
+    let (status, sink) = outcome(&rt, rt.alloc(), EACH_REPLY.0, ROOM)?;
     assert_eq!(rt; status, Status::Done);
     assert_eq!(rt; sink.bytes(), EACH_REPLY.1);
     Ok(())
@@ -246,7 +249,7 @@ fn each_reason_has_its_name(rt: HostRuntime) -> Result<(), Fail> {
 #[test]
 fn an_input_has_a_limit(rt: HostRuntime) -> Result<(), Fail> {
     let most = vec![in rt.alloc(); b'a'; 1_048_576]?;
-    let (status, _) = outcome(rt.alloc(), &most, ROOM)?;
+    let (status, _) = outcome(&rt, rt.alloc(), &most, ROOM)?;
     assert_eq!(rt;
         status,
         Status::Refused {
@@ -255,7 +258,7 @@ fn an_input_has_a_limit(rt: HostRuntime) -> Result<(), Fail> {
         }
     );
     let more = vec![in rt.alloc(); b'a'; 1_048_577]?;
-    let (status, sink) = outcome(rt.alloc(), &more, ROOM)?;
+    let (status, sink) = outcome(&rt, rt.alloc(), &more, ROOM)?;
     assert_eq!(rt; status, Status::TooLong);
     assert_eq!(rt; sink.bytes().len(), 0);
     Ok(())

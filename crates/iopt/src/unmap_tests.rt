@@ -38,7 +38,7 @@ const UNMAPS: [&[u8]; 6] = [
 #[test]
 fn unmaps_are_answered_as_by_the_book(rt: HostRuntime) -> Result<(), Fail> {
     for lines in UNMAPS {
-        assert!(rt; agree_everywhere(rt.alloc(), lines)?);
+        assert!(rt; agree_everywhere(&rt, rt.alloc(), lines)?);
     }
     Ok(())
 }
@@ -51,7 +51,7 @@ fn a_page_comes_and_goes_a_thousand_times(rt: HostRuntime) -> Result<(), Fail> {
         lines.extend_from_slice(b"map 0x10000 0x50000 0x10000 rw\nunmap 0x0 0x40000000\n")?;
     }
     for format in FORMATS {
-        assert!(rt; agree_in(rt.alloc(), format, format.frames[1], &lines)?);
+        assert!(rt; agree_in(&rt, rt.alloc(), format, format.frames[1], &lines)?);
     }
     Ok(())
 }
@@ -103,8 +103,8 @@ fn unmaps_end_around_each_border(rt: HostRuntime) -> Result<(), Fail> {
     for format in FORMATS {
         let mut lines = Vec::new(rt.alloc());
         push_borders(&mut lines, format)?;
-        assert!(rt; agree_in(rt.alloc(), format, 60, &lines)?);
-        assert!(rt; agree_in(rt.alloc(), format, format.frames[2], &lines)?);
+        assert!(rt; agree_in(&rt, rt.alloc(), format, 60, &lines)?);
+        assert!(rt; agree_in(&rt, rt.alloc(), format, format.frames[2], &lines)?);
     }
     Ok(())
 }
@@ -142,7 +142,7 @@ fn a_whole_space_goes_at_once(rt: HostRuntime) -> Result<(), Fail> {
         let shift = format.granule.saturating_sub(12) % 64;
         let mut lines = scaled_lines(rt.alloc(), ALL_OVER, shift)?;
         push_whole(&mut lines, format)?;
-        assert!(rt; agree_in(rt.alloc(), format, 60, &lines)?);
+        assert!(rt; agree_in(&rt, rt.alloc(), format, 60, &lines)?);
     }
     Ok(())
 }

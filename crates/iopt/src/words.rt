@@ -8,11 +8,20 @@ use pt_stream::read_dec;
 use std::alloc::Global;
 use std::marker::Model;
 
+/// How the branches of a fork run.
+#[derive(Clone, Copy, Debug, PartialEq, Eq)]
+pub enum Branches {
+    /// Beside each other, on leases of a shared space.
+    Beside,
+    /// One after the other, over one owner.
+    InTurn,
+}
+
 /// What a command line asks for.
 #[derive(Clone, Copy, Debug, PartialEq, Eq)]
 pub enum Task {
     /// To run the input, a script.
-    Run,
+    Run { branches: Branches },
     /// To make the script of a number, and to run it.
     Make { number: u64 },
 }
@@ -71,7 +80,11 @@ impl Words {
 fn task_of_one(word: &str) -> Option<Task>
     ensures { AskFor (word.now ∷ []) result }
 {
-    if word == "run" { Some(Task::Run) } else { None }
+    if word != "run" {
+        return None;
+    }
+    let branches = Branches::Beside;
+    Some(Task::Run { branches })
 }
 
 /// What two words ask for.
@@ -79,7 +92,8 @@ fn task_of_two(first: &str, second: &str) -> Option<Task>
     ensures { AskFor (first.now ∷ second.now ∷ []) result }
 {
     if first == "run" && second == "--plain" {
-        return Some(Task::Run);
+        let branches = Branches::InTurn;
+        return Some(Task::Run { branches });
     }
     if first != "make" {
         return None;
