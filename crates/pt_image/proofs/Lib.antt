@@ -9,3 +9,10 @@ mod Copying
 mod Visiting
 mod Starts
 mod Sounds
+mod Firsts
+mod Pointing
+mod OneBlock
+mod Goodness
+mod Judging
+mod Whole
+mod ImageCases

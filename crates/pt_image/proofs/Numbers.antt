@@ -1,7 +1,7 @@
 -- Numbers of entries, and their first pages.
-use Rattle.std.proofs.Common.{◌≡◌, ℕ, ◌+◌, ◌-◌, ◌*◌, ◌/◌, ◌%◌, ◌^◌, ◌<◌, ◌≤◌, sym, ap, ◌∙◌, subst, arith}
+use Rattle.std.proofs.Common.{◌≡◌, ℕ, ◌+◌, ◌-◌, ◌*◌, ◌/◌, ◌%◌, ◌^◌, ◌<◌, ◌≤◌, sym, ap, ◌∙◌, subst, arith, pow_mono}
 use Rattle.std.specs.Prelude.{min}
-use Rattle.std.proofs.lemmas.Nat.{mul-le}
+use Rattle.std.proofs.lemmas.Nat.{mul-le, pow_pos}
 use Rattle.std.proofs.Math.Nat.{div-mul-le_self, min-eq_left, min-eq_right}
 use mathlib.Core.Logic.{dite}
 use native.Mathlib.Decide.{dec_le}
@@ -27,3 +27,18 @@ module _ (e n base pages b : ℕ) (h : n ≤ (pages - 1 - base) / 2 ^ b) (low : 
   entry_low = dite (dec_le e 63)
       (λ le. let m = subst (λ (z : ℕ). n * 2 ^ z ≤ pages - 1 - base) (is ∙ min-eq_left le) most in omega arith)
       (λ gt. subst (λ (k : ℕ). base + k * 2 ^ e < pages) (sym (none (omega arith))) (omega arith))
+
+-- past the last entry whose pages are of the space
+pub entry_high : (e n base pages b : ℕ) → (pages - 1 - base) / 2 ^ b < n → base < pages → pages ≤ 2 ^ 52 → b ≡ min e 63 → pages ≤ base + n * 2 ^ e
+entry_high e n base pages b over low few is =
+    let d : ℕ = 2 ^ b in
+    let q : ℕ = (pages - 1 - base) / d in
+    let some : 0 < d = pow_pos b in
+    let next : (q + 1) * d ≡ q * d + d = omega arith in
+    let past : pages - 1 - base < (q + 1) * d = (let flip : d * q ≡ q * d = omega arith in omega arith) in
+    let up = mul-le (q + 1) d n d (omega arith) (omega arith) in
+    dite (dec_le e 63)
+    (λ le. subst (λ (z : ℕ). pages ≤ base + n * 2 ^ z) (is ∙ min-eq_left le) (omega arith))
+    (λ gt.
+    let wide : 2 ^ 63 ≤ 2 ^ e = pow_mono (let h : 63 ≤ e = omega arith in h) in
+    let one = mul-le 1 (2 ^ e) n (2 ^ e) (omega arith) (omega arith) in omega arith)

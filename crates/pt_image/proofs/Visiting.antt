@@ -63,7 +63,7 @@ module _ (f : Layout) (n : ℕ) (words : List ℕ) (g number : ℕ) (b : Block) 
   now_root zero = refl
   now_root (suc k) = root_after_entry f n (now k) g (number + k) (word_of f (part_of b k)) ∙ now_root k
 
-  now_tag : (k h : ℕ) → h < n → tag (now k) h ≡ tag words h
+  pub now_tag : (k h : ℕ) → h < n → tag (now k) h ≡ tag words h
   now_tag zero h lt = refl
   now_tag (suc k) h lt = tag_after_entry f n (now k) g (number + k) (word_of f (part_of b k)) h lt ∙ now_tag k h lt
 
@@ -105,6 +105,14 @@ visit_copies {f} {n} {image} {words} {words'} {g} {number} v b count long within
           elsewhere h i small (λ part _ e _. s.tagged (ap (tag words') (sym e) ∙ none)) ∙ s.cleared h i lt small none;
       added = λ h lt free some i small. elsewhere h i small (λ part _ e _. start.tagged (ap (tag words) (sym e) ∙ free)) ∙ s.added h lt free (λ e. some (same h lt ∙ e)) i small;
     }
+
+-- a frame has a tag when it is linked
+pub child_is_tagged : (f : Layout) (n : ℕ) (words : List ℕ) (g number c : ℕ) (p : Position) → c < n → length words ≡ word_count f n → tag (linked_words f n words g number p c) c ≢ 0
+child_is_tagged f n words g number c p few long e =
+    let is : tag (linked_words f n words g number p c) c ≡ placed_word (child_at f p number) =
+    tag_after_entry f n (slice_set words (1 + c) (placed_word (child_at f p number))) g number (f.pointer p.level (frame_address f c)) c few
+    ∙ tag_same f n words c (placed_word (child_at f p number)) long few in
+    let z : placed_word (child_at f p number) ≡ 0 = sym is ∙ e in omega arith
 
 -- past a table, by a visit of all of it
 module _ {f : Layout} {n : ℕ} {image words words' : List ℕ} {g number : ℕ} (c : ℕ) (p : Position) (v : Visits f n image words words' g number)

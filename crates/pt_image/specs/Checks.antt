@@ -1,15 +1,19 @@
 -- What the parts of the check need, and what they leave.
-use Rattle.std.specs.Prelude.{◌≡◌, ◌≢◌, ℕ, ◌+◌, ◌/◌, ◌%◌, ◌^◌, ◌<◌, ◌≤◌, List, length, IsTrue}
+use Rattle.std.specs.Prelude.{◌≡◌, ◌≢◌, ℕ, ◌+◌, ◌/◌, ◌%◌, ◌^◌, ◌<◌, ◌≤◌, List, ◌++◌, length, IsTrue}
 use Rattle.pt_model.specs.declared.block.Block.{Block}
 use Rattle.pt_model.specs.declared.position.Position.{Position}
 use Rattle.pt_model.specs.Layout.{Layout, IsLegalBlock, input_pages, level_of_size}
 use Rattle.pt_model.specs.Tables.{IsPosition, starting_top}
-use Rattle.pt_model.specs.Words.{frame_limit, word_count}
+use Rattle.pt_model.specs.Words.{frame_limit, tag, word_count}
 use Rattle.pt_view.specs.Calls.{entry_first}
 use Rattle.pt_view.specs.Pieces.{word_of, words_of}
 use Rattle.pt_image.specs.Bytes.{entry_at, image_length, root_in}
 use Rattle.pt_image.specs.Drafts.{Copies, group_words, part_of}
-use Rattle.pt_image.specs.Visits.{Visits}
+use Rattle.pt_image.specs.Faults.{AreGood, HasBlockAt, IsReached, NamesFirstBad}
+use Rattle.pt_image.specs.Order.{Visit, visits}
+use Rattle.pt_image.specs.Visits.{HasNoStray, Visits}
+use Rattle.pt_image.specs.declared.fault.ImageFault.{ImageFault}
+use Rattle.pt_image.specs.declared.fault.ImageFault.TheVariants.{Stray}
 use Rattle.pt_image.specs.declared.header.Header.{Header}
 use Rattle.pt_image.specs.declared.table.Table.{Table}
 use Rattle.pt_image.specs.declared.table.Entry.{Entry}
@@ -80,3 +84,44 @@ pub record IsRootTable (f : Layout) (h : Header) (image : List ℕ) (t : Table) 
   pub a_frame : t.frame < h.frames
   pub low : h.levels ≤ t.level + 1
   pub high : t.level < f.levels
+
+-- each block of the image that begins in a table before an entry ends before it
+abbrev pub EndBefore : Layout → (image : List ℕ) → (frame : ℕ) → Position → (number : ℕ) → Type 0
+EndBefore f image frame p number = (b : Block) (i : ℕ) → i < number → HasBlockAt f image frame p i b → i + words_of f b ≤ number
+
+-- so many entries of a table from one on, in the order of visits
+abbrev pub visits_of : Layout → Header → (image : List ℕ) → Table → (number count : ℕ) → List Visit
+visits_of f h image t number count = visits f h.frames image t.level t.frame t.base number count
+
+-- What the walk has seen before an entry of a table, `before` being the entries that were visited: the frames that they reach are
+-- those with a tag, and no block of the table goes over the entry.
+pub record Sees (f : Layout) (h : Header) (image words : List ℕ) (before : List Visit) (t : Table) (number : ℕ) : Type 0 where
+  pub tagged : (frame : ℕ) → frame < h.frames → tag words frame ≢ 0 → IsReached f h.frames h.levels image before frame
+  pub reached : (frame : ℕ) → frame < h.frames → IsReached f h.frames h.levels image before frame → tag words frame ≢ 0
+  pub ends : EndBefore f image t.frame (position_of t) number
+
+-- so many entries from one on are good, and the walk has seen them
+pub record FindsGood (f : Layout) (h : Header) (image words : List ℕ) (before : List Visit) (t : Table) (number count : ℕ) : Type 0 where
+  pub good : AreGood f h.frames h.levels image before (visits_of f h image t number count)
+  pub sees : Sees f h image words (before ++ visits_of f h image t number count) t (number + count)
+
+-- a walk from an entry on that has seen all before finds the next `count` entries good
+abbrev pub LeavesGood : Layout → Header → (image words words' : List ℕ) → Table → (number count : ℕ) → Type 0
+LeavesGood f h image words words' t number count = (before : List Visit) → Sees f h image words before t number → FindsGood f h image words' before t number count
+
+-- a walk from an entry on that has seen all before refuses the image for the first bad one of the next `count` entries
+abbrev pub RefusesFor : Layout → Header → (image words : List ℕ) → Table → (number count : ℕ) → ImageFault → Type 0
+RefusesFor f h image words t number count x =
+    (before : List Visit) → Sees f h image words before t number → NamesFirstBad f h.frames h.levels image before (visits_of f h image t number count) x
+
+-- the first entry of a frame of the image that isn't zero
+pub record IsFirstUsed (f : Layout) (image : List ℕ) (frame index : ℕ) : Type 0 where
+  pub below : index < 2 ^ f.index
+  pub some : entry_at f image frame index ≢ 0
+  pub least : (i : ℕ) → i < index → entry_at f image frame i ≡ 0
+
+-- the fault names the first entry that isn't zero of the frames that are free in the words
+abbrev pub NamesFirstUsed : Layout → (n : ℕ) → (image words : List ℕ) → ImageFault → Type 0
+NamesFirstUsed f n image words (Stray frame index) =
+    (frame < n) × (tag words frame ≡ 0) × IsFirstUsed f image frame index × HasNoStray f frame image words
+NamesFirstUsed f n image words x = ⊥

@@ -1,4 +1,6 @@
 pub mod Bytes
 pub mod Drafts
 pub mod Visits
+pub mod Order
+pub mod Faults
 pub mod Checks

@@ -1,10 +1,12 @@
 //! Blocks: the words of one, compared with what it is to have.
 
-ghost use Rattle.std.specs.Prelude.{◌≡◌, ℕ, ◌+◌, ◌^◌, ◌<◌, ◌≤◌, length, IsTrue, IfSome};
+ghost use Rattle.std.specs.Prelude.{◌≡◌, ℕ, ◌+◌, ◌^◌, ◌<◌, ◌≤◌, length, IsTrue, IsFalse, IfNone, IfSome};
 ghost use Rattle.pt_format.specs.Words.{IsLeaf, MayBeLeaf};
 ghost use Rattle.pt_model.specs.Layout.{level_of_size};
 ghost use Rattle.pt_view.specs.Pieces.{words_of};
-ghost use Rattle.pt_image.specs.Checks.{AreWords, HasBlock, IsCopied, IsEntryIn, IsHeaderOf, IsTableIn};
+ghost use Rattle.pt_image.specs.Checks.{AreWords, HasBlock, IsCopied, IsEntryIn, IsHeaderOf, IsTableIn, position_of};
+ghost use Rattle.pt_image.specs.Faults.{HasBlockAt};
+ghost use Rattle.pt_model.specs.declared.block.Block.{Block};
 ghost use Rattle.pt_image.specs.Drafts.{group_words};
 
 use crate::bytes::read_entry;
@@ -32,6 +34,7 @@ fn copy_words<F: Format>(
     ensures long { length words.new ≡ length words.old }
     ensures copied { IsTrue result → words.new ≡ group_words F.layout header.now.frames words.old table.frame number block (words_of F.layout block) }
     ensures has { IsTrue result → HasBlock F.layout image.now table.frame number block (words_of F.layout block) }
+    ensures lacks { IsFalse result → ¬ HasBlock F.layout image.now table.frame number block (words_of F.layout block) }
 {
     let Block {
         first: _,
@@ -68,6 +71,7 @@ pub(crate) fn copy_block<F: Format>(
     requires leaf { IsLeaf F.layout table.level entry.word log2 prot }
     ensures long { length words.new ≡ length words.old }
     ensures copied { IfSome result (λ k. IsCopied F.layout header.now.frames image.now words.old words.new table entry k) }
+    ensures lacks { IfNone result ((b : Block) → ¬ HasBlockAt F.layout image.now table.frame (position_of table) entry.number b) }
 {
     let pages = 1u64 << log2;
     if entry.first + pages > 1 << (F::INPUT - F::GRANULE) {

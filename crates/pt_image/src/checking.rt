@@ -1,10 +1,11 @@
 //! The check of an image whose header is good.
 
-ghost use Rattle.std.specs.Prelude.{◌≡◌, ℕ, ◌/◌, ◌%◌, ◌+◌, ◌^◌, ◌<◌, ◌≤◌, length, slice_index, IfNone, IfOk, IfSome};
+ghost use Rattle.std.specs.Prelude.{◌≡◌, ℕ, ◌/◌, ◌%◌, ◌+◌, ◌^◌, ◌<◌, ◌≤◌, length, slice_index, IfErr, IfNone, IfOk, IfSome};
 ghost use Rattle.pt_model.specs.Words.{root_word};
 ghost use Rattle.pt_image.specs.Bytes.{entry_at, root_in};
-ghost use Rattle.pt_image.specs.Checks.{AreWords, IsHeaderOf, IsRootTable};
+ghost use Rattle.pt_image.specs.Checks.{AreWords, IsFirstUsed, IsHeaderOf, IsRootTable, NamesFirstUsed};
 ghost use Rattle.pt_image.specs.Drafts.{IsBegun};
+ghost use Rattle.pt_image.specs.Faults.{HasRoot, IsGoodImage, IsRefusal};
 ghost use Rattle.pt_image.specs.Visits.{HasImage, HasNoStray};
 
 use crate::bytes::{ROOT, read_entry, read_u64};
@@ -22,7 +23,8 @@ use std::alloc::Global;
 fn first_used<F: Format>(image: &[u8], header: &Header, frame: u32) -> Option<u32>
     requires header { IsHeaderOf F.layout header.now image.now }
     requires a_frame { frame < header.now.frames }
-    ensures { IfNone result ((i : ℕ) → i < 2 ^ F.layout.index → entry_at F.layout image.now frame i ≡ 0) }
+    ensures none { IfNone result ((i : ℕ) → i < 2 ^ F.layout.index → entry_at F.layout image.now frame i ≡ 0) }
+    ensures first { IfSome result (IsFirstUsed F.layout image.now frame) }
 {
     for index in 0..1 << F::INDEX {
         if read_entry::<F>(image, header.frames, frame, index) != 0 {
@@ -36,7 +38,8 @@ fn first_used<F: Format>(image: &[u8], header: &Header, frame: u32) -> Option<u3
 fn first_stray<F: Format>(image: &[u8], header: &Header, words: &[u64]) -> Option<ImageFault>
     requires header { IsHeaderOf F.layout header.now image.now }
     requires words { AreWords F.layout header.now words.now }
-    ensures { IfNone result (HasNoStray F.layout header.now.frames image.now words.now) }
+    ensures none { IfNone result (HasNoStray F.layout header.now.frames image.now words.now) }
+    ensures first { IfSome result (NamesFirstUsed F.layout header.now.frames image.now words.now) }
 {
     for frame in 0..header.frames {
         if words[1 + frame as usize] == 0
@@ -69,7 +72,8 @@ fn begin<F: Format>(
 /// The root's table, where the root names a frame of the image and a level that a root can have.
 fn root_table<F: Format>(header: &Header, image: &[u8]) -> Option<Table>
     requires { IsHeaderOf F.layout header.now image.now }
-    ensures { IfSome result (λ t. IsRootTable F.layout header.now image.now t) }
+    ensures good { IfSome result (λ t. IsRootTable F.layout header.now image.now t) }
+    ensures bad { IfNone result (¬ HasRoot F.layout header.now.frames header.now.levels image.now) }
 {
     let root = read_u64(image, ROOT);
     let level = (root % 8) as u32;
@@ -85,8 +89,10 @@ fn root_table<F: Format>(header: &Header, image: &[u8]) -> Option<Table>
 }
 
 /// The words of an image of this format, with the tags of its tables, where it is found good: the root and the entries are the
-/// image's, and the words are sound, so that a space may be resumed from them. Otherwise what is wrong with it, or `Memory`
-/// where there is none for the words. The header is the image's own, and the image has exactly the bytes that it says.
+/// image's, and the words are sound, so that a space may be resumed from them. Otherwise the first thing that is wrong with it:
+/// the root, else the first bad entry in the order of visits, else the lowest entry that isn't zero of the lowest frame to which
+/// nothing points; or `Memory` where there is none for the words. The header is the image's own, and the image has exactly the
+/// bytes that it says.
 pub fn check<F: Format>(
     alloc: Global,
     header: &Header,
@@ -95,6 +101,8 @@ pub fn check<F: Format>(
     requires { IsHeaderOf F.layout header.now image.now }
     ensures sound { IfOk result (λ s. (s.frames ≡ header.now.frames) × (s.levels ≡ header.now.levels)) }
     ensures image { IfOk result (λ s. HasImage F.layout header.now.frames image.now s.words) }
+    ensures good { IfOk result (λ _. IsGoodImage F.layout header.now.frames header.now.levels image.now) }
+    ensures refused { IfErr result (IsRefusal F.layout header.now.frames header.now.levels image.now) }
 {
     let Some(table) = root_table::<F>(header, image) else {
         return Err(CheckRefused::Fault {

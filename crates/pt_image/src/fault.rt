@@ -1,5 +1,8 @@
 //! What is wrong with an image.
 
+ghost use Rattle.std.specs.Prelude.{◌≡◌};
+ghost use Rattle.pt_image.specs.declared.fault.CheckRefused.TheVariants.{Memory as NoMemory};
+
 use pt_num::Memory;
 
 /// What is wrong with an entry, in the order in which it is tested.
@@ -57,6 +60,8 @@ pub enum CheckRefused {
 }
 
 impl From<Memory> for CheckRefused {
+    ghost from_gives = { λ _ e. e ≡ NoMemory };
+
     fn from(_memory: Memory) -> CheckRefused {
         CheckRefused::Memory
     }

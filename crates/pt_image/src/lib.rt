@@ -6,7 +6,9 @@
 //!
 //! Promised: the words that it answers have the image's root and entries, and meet the rule with one view of the whole space,
 //! at rest, that holds no frame, for the header's frames and levels, whatever the image's bytes are; so a space is resumed from
-//! them (`pt_space::Space::resume`). Which fault is named, and that one comes only where the image has it, is not proved.
+//! them (`pt_space::Space::resume`). They are answered only for a good image. Otherwise the fault that is named is the
+//! image's first: entries are visited from the root's table by index, and a pointer's table right after its entry (`specs/Order.antt`);
+//! what is wrong with an entry, and in which order, `specs/Faults.antt` says of the image's bytes alone.
 #![tactic(auto)]
 
 mod block;

@@ -1,5 +1,8 @@
 //! Where the check stands: a table, and an entry of it.
 
+ghost use Rattle.std.specs.Prelude.{◌≡◌};
+ghost use Rattle.pt_image.specs.declared.fault.ImageFault.TheVariants as F;
+
 use crate::fault::{EntryFault, ImageFault};
 
 /// The table in a frame, of a level, whose first page is `base`.
@@ -20,7 +23,9 @@ pub(crate) struct Entry {
 
 impl Table {
     /// The fault of an entry.
-    pub(crate) fn fault(self, index: u32, fault: EntryFault) -> ImageFault {
+    pub(crate) fn fault(self, index: u32, fault: EntryFault) -> ImageFault
+        ensures { result ≡ F.Entry self.level self.base index fault }
+    {
         ImageFault::Entry {
             level: self.level,
             base: self.base,

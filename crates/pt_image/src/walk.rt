@@ -1,8 +1,8 @@
 //! The walk of the tables, which copies what it accepts.
 
-ghost use Rattle.std.specs.Prelude.{◌≡◌, ◌≢◌, ℕ, ◌+◌, ◌<◌, ◌≤◌, ◌^◌, ◌↔◌, length, IsTrue, IfOk};
+ghost use Rattle.std.specs.Prelude.{◌≡◌, ◌≢◌, ℕ, ◌+◌, ◌<◌, ◌≤◌, ◌^◌, ◌↔◌, length, IsTrue, IfErr, IfOk};
 ghost use Rattle.pt_format.specs.Words.{IsTableLevel};
-ghost use Rattle.pt_image.specs.Checks.{AreWords, CopiesTo, GoesOn, IsEntryIn, IsHeaderOf, IsTableIn, VisitsTo, position_of};
+ghost use Rattle.pt_image.specs.Checks.{AreWords, CopiesTo, GoesOn, IsEntryIn, IsHeaderOf, IsTableIn, LeavesGood, RefusesFor, VisitsTo, position_of};
 ghost use Rattle.pt_image.specs.Drafts.{linked_words};
 
 use crate::block::copy_block;
@@ -60,6 +60,8 @@ pub(crate) fn visit<F: Format>(
     ensures long { length words.new ≡ length words.old }
     ensures copies { IfOk result (λ _. CopiesTo F.layout header.now words.old words.new table (2 ^ F.layout.index)) }
     ensures visits { IfOk result (λ _. VisitsTo F.layout header.now image.now words.old words.new table (2 ^ F.layout.index)) }
+    ensures good { IfOk result (λ _. LeavesGood F.layout header.now image.now words.old words.new table 0 (2 ^ F.layout.index)) }
+    ensures bad { IfErr result (RefusesFor F.layout header.now image.now words.old table 0 (2 ^ F.layout.index)) }
 {
     if is_bridge(header, table) && read_entry::<F>(image, header.frames, table.frame, 0) == 0 {
         return Err(table.fault(0, EntryFault::Spine));
@@ -103,6 +105,8 @@ fn enter<F: Format>(
     requires entry { IsEntryIn F.layout header.now image.now table entry }
     ensures long { length words.new ≡ length words.old }
     ensures goes_on { IfOk result (λ k. GoesOn F.layout header.now image.now words.old words.new table entry.number k) }
+    ensures good { IfOk result (λ k. LeavesGood F.layout header.now image.now words.old words.new table entry.number k) }
+    ensures bad { IfErr result (RefusesFor F.layout header.now image.now words.old table entry.number 1) }
 {
     match F::read_word(table.level, entry.word) {
         Read::Empty => Ok(1),

@@ -1,17 +1,20 @@
 use Rattle.std.proofs.Common.{◌≡◌, ℕ, ◌+◌, ◌-◌, ◌*◌, ◌/◌, ◌%◌, ◌^◌, ◌<◌, ◌≤◌, refl, sym, ap, ◌∙◌, subst, arith}
 use Rattle.std.specs.Prelude.{slice_set}
+use Rattle.std.proofs.lemmas.Bool.{false≢true}
 use Rattle.std.proofs.lemmas.Nat.{mod-mul-add, mod_below, one_shl, pow_pos}
 use Rattle.pt_model.specs.declared.block.Block.{Block}
 use Rattle.pt_model.specs.Layout.{input_pages, output_pages, level_of_size, pages_of_table, IsLegalBlock}
 use Rattle.pt_model.specs.Words.{entry_place}
 use Rattle.pt_view.specs.Pieces.{word_of, words_of}
 use Rattle.pt_image.specs.Bytes.{entry_at}
-use Rattle.pt_image.specs.Checks.{position_of}
+use Rattle.pt_image.specs.Checks.{HasBlock, position_of}
 use Rattle.pt_image.specs.Drafts.{group_words, part_of}
 use Rattle.pt_image.proofs.Entries.{entry_multiple}
 use Rattle.pt_image.proofs.Groups.{fits}
+use Rattle.pt_image.proofs.OneBlock.{begins_out, begins_size}
 use Rattle.pt_image.proofs.Sizes.{size_few}
 use Rattle.pt_image.proofs.block.copy_block.Goals as goal
+use Rattle.pt_image.proofs.block.copy_block.Goals.{then-not-is_aligned-via-then-not-is_aligned, then-not-is_aligned-via-else-not-is_aligned+then-not-is_aligned-2}
 
 pub overflow_shl-pages : goal.overflow_shl-pages
 overflow_shl-pages g c = size_few g.met.F.Format.lawful_layout c.requires.leaf
@@ -140,3 +143,67 @@ returns-then-copy_words-clause-copied g c =
       words_are = c.copy_words.ensures.copied c.if-copy_words.true ∙ ap (group_words f c.args.header.now.frames c.args.words.now c.args.table.frame c.args.entry.number b) count;
       image_has = λ part lt. c.copy_words.ensures.has c.if-copy_words.true part (let e = count in omega arith);
     }
+
+pub returns-then-entry-pages-clause-lacks : goal.returns-then-entry-pages-clause-lacks
+returns-then-entry-pages-clause-lacks g c b h =
+    let f = g.F.Format.layout in
+    let law = g.met.F.Format in
+    let leaf = c.requires.leaf in
+    let size = begins_size f law.lawful_layout law.words_differ law.steps_agree c.args.image.now c.args.table.frame (position_of c.args.table) c.args.entry.number b h c.args.entry.word c.args.log2 c.args.prot leaf c.requires.entry.word_is in
+    let first : b.first ≡ c.args.entry.first = h.first_is ∙ sym c.requires.entry.first_is in
+    let constants = law.has_constants in
+    let pages : (1 * 2 ^ c.args.log2) % 18446744073709551616 ≡ 2 ^ c.args.log2 = one_shl c.args.log2 64 (size_few law.lawful_layout leaf) in
+    let input : c.INPUT.result - c.GRANULE.result ≡ f.input - f.granule = (let a = c.INPUT.ensures ∙ sym constants.input_is in let b = c.GRANULE.ensures ∙ sym constants.granule_is in omega arith) in
+    let inputs : (1 * 2 ^ (c.INPUT.result - c.GRANULE.result)) % 18446744073709551616 ≡ input_pages f =
+    one_shl (c.INPUT.result - c.GRANULE.result) 64 (let a = law.lawful_layout.pages_high in omega arith) ∙ ap (λ b. 2 ^ b) input in
+    let same : 2 ^ b.log2 ≡ 2 ^ c.args.log2 = ap (λ (k : ℕ). 2 ^ k) size.0 in
+    let a = h.legal.in_input in let over = c.if-entry-pages.true in omega arith
+
+pub returns-then-not-is_aligned-clause-lacks : goal.returns-then-not-is_aligned-clause-lacks
+returns-then-not-is_aligned-clause-lacks g c b h =
+    let f = g.F.Format.layout in
+    let law = g.met.F.Format in
+    let leaf = c.requires.leaf in
+    let size = begins_size f law.lawful_layout law.words_differ law.steps_agree c.args.image.now c.args.table.frame (position_of c.args.table) c.args.entry.number b h c.args.entry.word c.args.log2 c.args.prot leaf c.requires.entry.word_is in
+    let first : b.first ≡ c.args.entry.first = h.first_is ∙ sym c.requires.entry.first_is in
+    let out : b.out ≡ c.out_of-out.result = begins_out f law.lawful_layout law.words_differ law.steps_agree c.args.image.now c.args.table.frame (position_of c.args.table) c.args.entry.number b h c.args.entry.word c.args.log2 c.args.prot leaf c.requires.entry.word_is
+    c.out_of-out.result (λ log2 prot is. ap (f.step c.args.table.level c.args.entry.word) (sym c.requires.entry.first_is) ∙ c.out_of-out.ensures.page log2 prot is) in
+    elim c.then-not-is_aligned.branch [
+      | then-not-is_aligned-via-then-not-is_aligned w ↦
+          let aligned : c.args.entry.first % 2 ^ c.args.log2 ≡ 0 = sym (λ i. first i % 2 ^ size.0 i) ∙ h.legal.first_aligned in
+          false≢true (sym w.if-not-is_aligned.true ∙ c.is_aligned.ensures.1 aligned)
+      | then-not-is_aligned-via-else-not-is_aligned+then-not-is_aligned-2 w ↦
+          let aligned : c.out_of-out.result % 2 ^ c.args.log2 ≡ 0 = sym (λ i. out i % 2 ^ size.0 i) ∙ h.legal.out_aligned in
+          false≢true (sym w.if-not-is_aligned-2.true ∙ w.is_aligned-else-not-is_aligned.ensures.1 aligned)
+    ]
+
+pub returns-then-out-pages-clause-lacks : goal.returns-then-out-pages-clause-lacks
+returns-then-out-pages-clause-lacks g c b h =
+    let f = g.F.Format.layout in
+    let law = g.met.F.Format in
+    let leaf = c.requires.leaf in
+    let size = begins_size f law.lawful_layout law.words_differ law.steps_agree c.args.image.now c.args.table.frame (position_of c.args.table) c.args.entry.number b h c.args.entry.word c.args.log2 c.args.prot leaf c.requires.entry.word_is in
+    let first : b.first ≡ c.args.entry.first = h.first_is ∙ sym c.requires.entry.first_is in
+    let out : b.out ≡ c.out_of-out.result = begins_out f law.lawful_layout law.words_differ law.steps_agree c.args.image.now c.args.table.frame (position_of c.args.table) c.args.entry.number b h c.args.entry.word c.args.log2 c.args.prot leaf c.requires.entry.word_is
+    c.out_of-out.result (λ log2 prot is. ap (f.step c.args.table.level c.args.entry.word) (sym c.requires.entry.first_is) ∙ c.out_of-out.ensures.page log2 prot is) in
+    let constants = law.has_constants in
+    let pages : (1 * 2 ^ c.args.log2) % 18446744073709551616 ≡ 2 ^ c.args.log2 = one_shl c.args.log2 64 (size_few law.lawful_layout leaf) in
+    let output : c.OUTPUT.result - c.GRANULE-2.result ≡ f.output - f.granule = (let a = c.OUTPUT.ensures ∙ sym constants.output_is in let b = c.GRANULE-2.ensures ∙ sym constants.granule_is in omega arith) in
+    let outputs : (1 * 2 ^ (c.OUTPUT.result - c.GRANULE-2.result)) % 18446744073709551616 ≡ output_pages f =
+    one_shl (c.OUTPUT.result - c.GRANULE-2.result) 64 (let a = law.lawful_layout.output_high in let d = law.lawful_layout.granule_low in omega arith) ∙ ap (λ b. 2 ^ b) output in
+    let same : 2 ^ b.log2 ≡ 2 ^ c.args.log2 = ap (λ (k : ℕ). 2 ^ k) size.0 in
+    let a = h.legal.in_output in let over = c.if-out-pages.true in omega arith
+
+pub returns-else-copy_words-clause-lacks : goal.returns-else-copy_words-clause-lacks
+returns-else-copy_words-clause-lacks g c b h =
+    let f = g.F.Format.layout in
+    let law = g.met.F.Format in
+    let leaf = c.requires.leaf in
+    let size = begins_size f law.lawful_layout law.words_differ law.steps_agree c.args.image.now c.args.table.frame (position_of c.args.table) c.args.entry.number b h c.args.entry.word c.args.log2 c.args.prot leaf c.requires.entry.word_is in
+    let first : b.first ≡ c.args.entry.first = h.first_is ∙ sym c.requires.entry.first_is in
+    let out : b.out ≡ c.out_of-out.result = begins_out f law.lawful_layout law.words_differ law.steps_agree c.args.image.now c.args.table.frame (position_of c.args.table) c.args.entry.number b h c.args.entry.word c.args.log2 c.args.prot leaf c.requires.entry.word_is
+    c.out_of-out.result (λ log2 prot is. ap (f.step c.args.table.level c.args.entry.word) (sym c.requires.entry.first_is) ∙ c.out_of-out.ensures.page log2 prot is) in
+    let is : b ≡ record { first = c.args.entry.first; log2 = c.args.log2; out = c.out_of-out.result; prot = c.args.prot } =
+    (λ i. record { first = first i; log2 = size.0 i; out = out i; prot = size.1 i }) in
+    c.copy_words.ensures.lacks c.if-copy_words.false
+    (subst (λ (x : Block). HasBlock f c.args.image.now c.args.table.frame c.args.entry.number x (words_of f x)) is h.words)

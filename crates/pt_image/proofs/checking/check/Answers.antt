@@ -5,12 +5,13 @@ use Rattle.pt_model.specs.declared.position.Position.{Position}
 use Rattle.pt_model.specs.Tables.{spine_position, starting_top}
 use Rattle.pt_space.specs.Saved.{IsSound, SavedWords}
 use Rattle.pt_image.specs.Bytes.{root_in}
-use Rattle.pt_image.specs.Checks.{position_of}
+use Rattle.pt_image.specs.Checks.{NamesFirstUsed, position_of}
 use Rattle.pt_image.specs.Drafts.{HasSpine, IsBegun, Reaches, Stands}
 use Rattle.pt_image.specs.Visits.{HasImage, HasNoStray}
 use Rattle.pt_image.proofs.Sounds.{draft_is_sound}
 use Rattle.pt_image.proofs.Starts.{starts}
 use Rattle.pt_image.proofs.Visiting.{root_back, visited_has}
+use Rattle.pt_image.proofs.Whole.{good_image, refused_entry, refused_stray}
 use Rattle.pt_image.proofs.checking.check.Goals as goal
 
 written : (xs ys : List ℕ) (k : ℕ) → k ≡ length xs → take k (xs ++ drop (length xs) ys) ≡ xs
@@ -24,7 +25,7 @@ of-requires g c =
     let n : ℕ = c.args.header.now.frames in
     let l : ℕ = c.args.header.now.levels in
     let table = c.in-Some.table in
-    let root = c.in-Some.ensures in
+    let root = c.in-Some.ensures.good in
     let top : ℕ = table.level in
     let low : l ≤ top + 1 = root.low in
     let start = c.requires.low in
@@ -51,7 +52,7 @@ returns-clause-image g c =
     let n : ℕ = c.args.header.now.frames in
     let table = c.in-Some.table in
     let top : ℕ = table.level in
-    let root = c.in-Some.ensures in
+    let root = c.in-Some.ensures.good in
     let image = c.args.image.now in
     let begun : IsBegun f n (top + 1) table.frame c.deref_mut.result.now = search rules in
     let level : top + 1 - 1 ≡ top = omega arith in
@@ -59,7 +60,41 @@ returns-clause-image g c =
     begun.root ∙ ap (λ (k : ℕ). table.frame * 8 + k) level ∙ root_back (root_in image) table.frame top root.frame_is root.level_is in
     let len : c.in_ok-words.words.len ≡ length c.visit.new.words = (let a = c.visit.ensures.long in let b = c.deref_mut.ensures.len in omega arith) in
     let kept = written c.visit.new.words c.in_ok-words.words.items c.in_ok-words.words.len len in
-    let no_stray : HasNoStray f n image c.visit.new.words = subst (HasNoStray f n image) (c.deref.ensures.value ∙ kept) c.in_default-first_stray.ensures in
+    let no_stray : HasNoStray f n image c.visit.new.words = subst (HasNoStray f n image) (c.deref.ensures.value ∙ kept) c.in_default-first_stray.ensures.none in
     let words_are : c.of.result.words ≡ c.visit.new.words = ap (λ (s : SavedWords). s.words) c.of.ensures ∙ kept in
     subst (HasImage f n image) (sym words_are)
     (visited_has f n (top + 1) table.frame image c.deref_mut.result.now c.visit.new.words begun root.a_frame root_is c.in_default-visit.ensures.visits no_stray)
+
+pub returns-clause-good : goal.returns-clause-good
+returns-clause-good g c =
+    let f = g.F.Format.layout in
+    let n : ℕ = c.args.header.now.frames in
+    let image = c.args.image.now in
+    let table = c.in-Some.table in
+    let begun : IsBegun f n (table.level + 1) table.frame c.deref_mut.result.now = search rules in
+    let len : c.in_ok-words.words.len ≡ length c.visit.new.words = (let a = c.visit.ensures.long in let b = c.deref_mut.ensures.len in omega arith) in
+    let kept = written c.visit.new.words c.in_ok-words.words.items c.in_ok-words.words.len len in
+    let no_stray : HasNoStray f n image c.visit.new.words = subst (HasNoStray f n image) (c.deref.ensures.value ∙ kept) c.in_default-first_stray.ensures.none in
+    good_image f c.args.header.now image table c.in-Some.ensures.good c.deref_mut.result.now begun c.visit.new.words c.in_default-visit.ensures.good no_stray
+
+pub returns-in-Err-clause-refused : goal.returns-in-Err-clause-refused
+returns-in-Err-clause-refused g c =
+    let f = g.F.Format.layout in
+    let n : ℕ = c.args.header.now.frames in
+    let table = c.in-Some.table in
+    let begun : IsBegun f n (table.level + 1) table.frame c.deref_mut.result.now = search rules in
+    refused_entry f c.args.header.now c.args.image.now table c.in-Some.ensures.good c.deref_mut.result.now begun c.in-Err.fault c.in-Err.ensures.bad
+
+pub returns-in-Some-first_stray-clause-refused : goal.returns-in-Some-first_stray-clause-refused
+returns-in-Some-first_stray-clause-refused g c =
+    let f = g.F.Format.layout in
+    let n : ℕ = c.args.header.now.frames in
+    let image = c.args.image.now in
+    let table = c.in-Some.table in
+    let fault = c.in-Some-first_stray.fault in
+    let begun : IsBegun f n (table.level + 1) table.frame c.deref_mut.result.now = search rules in
+    let len : c.in_ok-words.words.len ≡ length c.visit.new.words = (let a = c.visit.ensures.long in let b = c.deref_mut.ensures.len in omega arith) in
+    let kept = written c.visit.new.words c.in_ok-words.words.items c.in_ok-words.words.len len in
+    let names : NamesFirstUsed f n image c.visit.new.words fault =
+    subst (λ (ws : List ℕ). NamesFirstUsed f n image ws fault) (c.deref.ensures.value ∙ kept) c.in-Some-first_stray.ensures.first in
+    refused_stray f c.args.header.now image table c.in-Some.ensures.good c.deref_mut.result.now begun c.visit.new.words c.in_default-visit.ensures.good fault names
