@@ -219,6 +219,10 @@ module _ {f : Layout} {first count : ℕ} {v : View} (may : MayClearRun f v firs
         once = ap (pieces_at f may.position (first + i)) found.0.book.pieces ∙ found.1.once;
       }
 
+  -- a look at a piece makes no path
+  pub path_looked : {word : ℕ} → Went f Always (IsWhole f w) (first + i) w (Leaf word) u → u.path ≡ w.path
+  path_looked went = (looked_piece may.low (at_next may so_far less) went).0.path
+
   pub may_clear : {word : ℕ} → Went f Always (IsWhole f w) (first + i) w (Leaf word) u → MayClear f u (first + i)
   may_clear went =
       let found = looked_piece may.low (at_next may so_far less) went in

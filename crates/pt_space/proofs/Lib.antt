@@ -1,6 +1,7 @@
 pub mod Stepping
 pub mod Showing
 pub mod Nodes
+pub mod EntryPlaces
 pub mod Roots
 pub mod Enters
 pub mod Takes

@@ -1,6 +1,6 @@
 -- A lease loads the root.
 use Rattle.std.proofs.Common.{◌≡◌, ℕ, zero, suc, ◌+◌, ◌/◌, ◌%◌, ◌<◌, List, [], ◌∷◌, length, ap, sym, ◌∙◌, subst, arith, get_or-set_same}
-use Rattle.std.specs.Prelude.{None, slice_index, slice_set}
+use Rattle.std.specs.Prelude.{None, false, slice_index, slice_set}
 use mathlib.Core.Option.{some, some-injective}
 use lib.ListN.{get_elem?}
 use Rattle.pt_model.specs.Layout.{Layout}
@@ -10,12 +10,24 @@ use Rattle.pt_format.specs.Manual.{StepsAgree}
 use Rattle.pt_view.specs.declared.view.View.{View}
 use Rattle.pt_view.specs.declared.view.Node.{Node}
 use Rattle.pt_view.specs.Calls.{Rooted}
-use Rattle.pt_rule.specs.Kinds.{load_root}
+use Rattle.pt_rule.specs.Holds.{Holds}
+use Rattle.pt_rule.specs.Kinds.{load_root, retrace}
 use Rattle.pt_rule.specs.Meets.{Always, IsWhole}
 use Rattle.pt_rule.specs.Tags.{first_or}
 use Rattle.pt_rule.specs.WholeView.{prepared_frame}
 use Rattle.pt_space.specs.Standing.{Fields, Shows, Stepped, cut_to}
 use Rattle.pt_space.proofs.Showing.{says, whole_path}
+
+-- in a format that doesn't grow, the root's level is that of its levels
+pub fixed_level : {f : Layout} → IsLayout f → f.grows ≡ false → {n l : ℕ} {v w : View} {path : List Node} {found : ℕ} → Holds f n l v → Stepped f n l load_root (retrace path v) found w → found % 8 + 1 ≡ f.levels
+fixed_level good fixed holds t =
+    let start = good.fixed fixed in
+    let low = holds.low in
+    let high = holds.high in
+    let levels = holds.levels in
+    let top = holds.book.top_low in
+    let reaches = t.tells.reaches in
+    let within = t.tells.a_level in omega arith
 
 module _ {f : Layout} (good : IsLayout f) (differ : WordsDiffer f) (agree : StepsAgree f) {n l : ℕ} {v w : View} {o : Fields} (s : Shows f n l v o) (eight : length o.path ≡ 8)
     (none : (cut_to o.depth v).path ≡ []) {found : ℕ} (t : Stepped f n l load_root (cut_to o.depth v) found w) where

@@ -1,6 +1,6 @@
 -- Words that meet the rule with a view of the whole space meet it with the view that they say, and the fields of a pass show
 -- that view.
-use Rattle.std.proofs.Common.{◌≡◌, ℕ, zero, suc, ◌+◌, ◌-◌, ◌<◌, ◌≤◌, List, [], ◌∷◌, length, refl, ap, sym, ◌∙◌, arith}
+use Rattle.std.proofs.Common.{◌≡◌, ℕ, ◌-◌, ◌<◌, ◌≤◌, List, [], ◌∷◌, refl, ap, sym, ◌∙◌, arith}
 use Rattle.std.specs.Prelude.{Option, None}
 use Rattle.std.proofs.lemmas.Nat.{pow_pos}
 use Rattle.pt_model.specs.Layout.{Layout, input_pages}

@@ -4,7 +4,7 @@ use mathlib.Core.Option.{some}
 use lib.ListN.{get_elem?}
 use Rattle.atomic_table.specs.Seated.{TableId}
 use Rattle.pt_model.specs.Layout.{Layout}
-use Rattle.pt_model.specs.Words.{frame_limit, word_count}
+use Rattle.pt_model.specs.Words.{entry_place, frame_limit, word_count}
 use Rattle.pt_view.specs.declared.view.View.{View}
 use Rattle.pt_view.specs.declared.view.Node.{Node}
 use Rattle.pt_view.specs.declared.view.Piece.{Piece}
@@ -13,7 +13,7 @@ use Rattle.pt_view.specs.Views.{Aside, Stays}
 use Rattle.pt_rule.specs.Holds.{Holds}
 use Rattle.pt_rule.specs.Meets.{IsWhole}
 use Rattle.pt_rule.specs.Tags.{first_or}
-use Rattle.pt_rule.specs.Kinds.{Kind, May, Tells, after, place_of, put, retrace}
+use Rattle.pt_rule.specs.Kinds.{IsLowestIn, Kind, May, Tells, after, place_of, put, retrace}
 use Rattle.pt_rule.specs.WholeView.{prepared_frame}
 
 -- which space
@@ -41,6 +41,12 @@ pub record IsSpaceOf (f : Layout) (t : TableId) (n l frames levels : ℕ) : Type
 -- the seat's view goes on from the holder's path
 abbrev pub GoesOn : View → List Node → Type 0
 GoesOn v path = (rest : List Node) × (v.path ≡ path ++ rest)
+
+-- an entry of the path's last table, which is in this frame, stands at this word
+pub record IsEntryPlace (f : Layout) (s : Standing) (frame number word : ℕ) : Type 0 where
+  pub lowest : IsLowestIn s.view frame
+  pub a_frame : frame < s.space.frames
+  pub place : entry_place f s.space.frames frame number ≡ word
 
 -- A step of this kind may be made at a word by a seat of a space of n frames, for a holder with this path. It puts there
 -- what `puts` says of the number found.

@@ -1,12 +1,12 @@
 //! The calls of a holder, by single steps of the shared words.
 
-ghost use Rattle.std.specs.Prelude.{◌≡◌, ℕ, ◌<◌, length, [], ◌∷◌};
+ghost use Rattle.std.specs.Prelude.{◌≡◌, ℕ, ◌+◌, ◌<◌, ◌%◌, ◌^◌, false, length, [], ◌∷◌};
 ghost use Rattle.pt_model.specs.declared.position.Position.{Position};
 ghost use Rattle.pt_model.specs.Words as words_are;
-ghost use Rattle.pt_view.specs.Calls.{IsEntryAt, IsFreed};
+ghost use Rattle.pt_view.specs.Calls.{IsCleared, IsEntryAt, IsFreed, IsWritten, MayClear, MayWrite, MeetsEntry, Went};
 ghost use Rattle.pt_rule.specs.Kinds.{IsLowestIn};
-ghost use Rattle.pt_rule.specs.Meets.{Always};
-ghost use Rattle.pt_space.specs.Standing.{StaysIn};
+ghost use Rattle.pt_rule.specs.Meets.{Always, IsWhole};
+ghost use Rattle.pt_space.specs.Standing.{IsEntryPlace, StaysIn};
 
 use crate::lease::Lease;
 use crate::space::Space;
@@ -19,17 +19,93 @@ use pt_words::{
 };
 use std::marker::Brand;
 
+/// The level that the root's word names. In a format that doesn't grow it is known without it.
+#[inline(always)]
+fn root_level<F: Format>(root: u64) -> u32
+    requires { F.layout.grows ≡ false → root % 8 + 1 ≡ F.layout.levels }
+    ensures { result ≡ root % 8 }
+{
+    if F::GROWS {
+        (root % 8) as u32
+    } else {
+        F::LEVELS - 1
+    }
+}
+
 impl<'a, F: Format> Lease<'a, F> {
     /// The frame of the path's last table, and the word that is an entry of it.
+    #[inline(always)]
     fn entry(&self, number: u32) -> (u32, usize)
         requires { (p : Position) × IsEntryAt F.layout self.now.view p number }
         ensures lowest { IsLowestIn self.now.view result.0 }
+        ensures a_frame { result.0 < self.now.space.frames }
+        ensures small { result.1 < 2 ^ 32 }
         ensures place { words_are.entry_place F.layout self.now.space.frames result.0 number ≡ result.1 }
         ensures within { result.1 < words_are.word_count F.layout self.now.space.frames }
     {
         let space = self.space;
         let frame = self.path[self.depth as usize - 1];
         (frame, entry_place::<F>(space.frames, frame, number))
+    }
+
+    /// Loads an entry, of which the place is known, and goes into the table that it names, if it does.
+    #[inline(always)]
+    fn enter_at(&mut self, frame: u32, place: usize, number: u32) -> Seen
+        requires meets { MeetsEntry F.layout self.old.view number }
+        requires at { IsEntryPlace F.layout self.old frame number place }
+        ensures stays { StaysIn F.layout self.old self.new }
+        ensures went { Went F.layout Always (IsWhole F.layout self.old.view) number self.old.view result self.new.view }
+    {
+        let depth = self.depth;
+        let level = self.level;
+        let at = At {
+            depth,
+            frame,
+            number,
+        };
+        let word = load::<F, Brand>(self.space, &mut self.seat, at, place);
+        if word == 0 {
+            return Seen::Empty;
+        }
+        if F::is_leaf(level, word) {
+            return Seen::Leaf(word);
+        }
+        self.path[depth as usize] = frame_named::<F>(F::address_of(level, word));
+        self.depth = depth + 1;
+        self.level = level - 1;
+        Seen::Entered
+    }
+
+    /// Writes a word of a block into an entry, of which the place is known.
+    #[inline(always)]
+    fn write_at(&mut self, frame: u32, place: usize, number: u32, word: u64)
+        requires may { MayWrite F.layout self.old.view number word }
+        requires at { IsEntryPlace F.layout self.old frame number place }
+        ensures stays { StaysIn F.layout self.old self.new }
+        ensures written { IsWritten F.layout Always number word self.old.view self.new.view }
+    {
+        let at = At {
+            depth: self.depth,
+            frame,
+            number,
+        };
+        store_piece::<F, Brand>(self.space, &mut self.seat, at, place, word);
+    }
+
+    /// Clears an entry, of which the place is known, at which the word of an own block stands.
+    #[inline(always)]
+    fn clear_at(&mut self, frame: u32, place: usize, number: u32)
+        requires may { MayClear F.layout self.old.view number }
+        requires at { IsEntryPlace F.layout self.old frame number place }
+        ensures stays { StaysIn F.layout self.old self.new }
+        ensures cleared { IsCleared F.layout Always number self.old.view self.new.view }
+    {
+        let at = At {
+            depth: self.depth,
+            frame,
+            number,
+        };
+        store_piece::<F, Brand>(self.space, &mut self.seat, at, place, 0);
     }
 
     /// Frees the first frame of the purse.
@@ -70,6 +146,7 @@ impl<'a, F: Format> Holder<F> for Lease<'a, F> {
 
     ghost alone = { λ s. IsWhole F.layout s.view };
 
+    #[inline(always)]
     fn root(&mut self) -> u32 {
         let at = At {
             depth: self.depth,
@@ -77,38 +154,23 @@ impl<'a, F: Format> Holder<F> for Lease<'a, F> {
             number: 0,
         };
         let found = load::<F, Brand>(self.space, &mut self.seat, at, 0);
-        let level = (found % 8) as u32;
+        let level = root_level::<F>(found);
         self.path[0] = (found / 8) as u32;
         self.depth = 1;
         self.level = level;
         level
     }
 
+    #[inline(always)]
     fn enter(&mut self, number: u32) -> Seen {
-        let depth = self.depth;
-        let level = self.level;
         let (frame, place) = self.entry(number);
-        let at = At {
-            depth,
-            frame,
-            number,
-        };
-        let word = load::<F, Brand>(self.space, &mut self.seat, at, place);
-        if word == 0 {
-            return Seen::Empty;
-        }
-        if F::is_leaf(level, word) {
-            return Seen::Leaf(word);
-        }
-        self.path[depth as usize] = frame_named::<F>(F::address_of(level, word));
-        self.depth = depth + 1;
-        self.level = level - 1;
-        Seen::Entered
+        self.enter_at(frame, place, number)
     }
 
     fn empty_run(&mut self, first: u32, count: u32) -> bool {
+        let (frame, place) = self.entry(first);
         for i in 0..count {
-            match self.enter(first + i) {
+            match self.enter_at(frame, place + i as usize, first + i) {
                 Seen::Empty => {}
                 Seen::Leaf(_) => return false,
                 Seen::Entered => {
@@ -120,6 +182,7 @@ impl<'a, F: Format> Holder<F> for Lease<'a, F> {
         true
     }
 
+    #[inline(always)]
     fn leave(&mut self) {
         self.depth -= 1;
         self.level += 1;
@@ -215,40 +278,38 @@ impl<'a, F: Format> Holder<F> for Lease<'a, F> {
         Won::Met
     }
 
+    #[inline(always)]
     fn write(&mut self, number: u32, word: u64) {
         let (frame, place) = self.entry(number);
-        let at = At {
-            depth: self.depth,
-            frame,
-            number,
-        };
-        store_piece::<F, Brand>(self.space, &mut self.seat, at, place, word);
+        self.write_at(frame, place, number, word);
     }
 
     fn write_run(&mut self, first: u32, count: u32, word: u64, step: u64) {
         let _depth = self.depth;
+        let (frame, place) = self.entry(first);
+        let mut next = word;
         for i in 0..count {
-            self.write(first + i, word + u64::from(i) * step);
+            self.write_at(frame, place + i as usize, first + i, next);
+            next = next.wrapping_add(step);
         }
     }
 
+    #[inline(always)]
     fn clear(&mut self, number: u32) {
         let (frame, place) = self.entry(number);
-        let at = At {
-            depth: self.depth,
-            frame,
-            number,
-        };
-        store_piece::<F, Brand>(self.space, &mut self.seat, at, place, 0);
+        self.clear_at(frame, place, number);
     }
 
     fn clear_run(&mut self, first: u32, count: u32) -> u32 {
+        let (frame, place) = self.entry(first);
         let mut cleared = 0;
         for i in 0..count {
-            match self.enter(first + i) {
+            let number = first + i;
+            let entry = place + i as usize;
+            match self.enter_at(frame, entry, number) {
                 Seen::Empty => {}
                 Seen::Leaf(_) => {
-                    self.clear(first + i);
+                    self.clear_at(frame, entry, number);
                     cleared += 1;
                 }
                 Seen::Entered => unreachable!(),

@@ -47,6 +47,7 @@ impl<F: Format, J: Step> Play<(), View> for Makes<F, J> {
 }
 
 /// A load of a word.
+#[inline(always)]
 pub(crate) fn load<F: Format, J: Step>(
     space: &Space<F>,
     seat: &mut Seat<(), View>,
@@ -70,6 +71,7 @@ impl<F: Format, J: Step> Play<(), View> for Stores<F, J> {
 }
 
 /// A store to a word. What it finds isn't told.
+#[inline(always)]
 pub(crate) fn store<F: Format, J: Step>(
     space: &Space<F>,
     seat: &mut Seat<(), View>,
@@ -86,6 +88,7 @@ pub(crate) fn store<F: Format, J: Step>(
 }
 
 /// A store of zero to a word.
+#[inline(always)]
 pub(crate) fn store_zero<F: Format, J: Step>(
     space: &Space<F>,
     seat: &mut Seat<(), View>,
@@ -101,6 +104,7 @@ pub(crate) fn store_zero<F: Format, J: Step>(
 }
 
 /// An exchange of a word, from `old` to `new`. Answers the word as it was. It is tried once.
+#[inline(always)]
 pub(crate) fn exchange<F: Format, J: Step>(
     space: &Space<F>,
     seat: &mut Seat<(), View>,
@@ -145,6 +149,7 @@ impl<F: Format, J: PieceStep> Play<(), View> for StoresPiece<F, J> {
 }
 
 /// A store to an entry about some piece.
+#[inline(always)]
 pub(crate) fn store_piece<F: Format, J: PieceStep>(
     space: &Space<F>,
     seat: &mut Seat<(), View>,

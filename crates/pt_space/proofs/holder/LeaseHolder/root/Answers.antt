@@ -1,4 +1,4 @@
-use Rattle.std.proofs.Common.{◌≡◌, ◌%◌, [], ap, ◌∙◌, refl, subst, arith}
+use Rattle.std.proofs.Common.{◌≡◌, ℕ, [], ap, sym, ◌∙◌, refl, subst, arith}
 use Rattle.pt_view.specs.Calls.{Rooted}
 use Rattle.pt_rule.specs.Meets.{Always, IsWhole}
 use Rattle.pt_space.specs.Standing.{Standing, cut_to}
@@ -16,5 +16,8 @@ returns-clause-rooted g c =
     let f = g.F.Format.layout in
     let o = c.self.inside in
     let none : (cut_to o.depth o.seat.me.0).path ≡ [] = ap (λ (x : Standing). x.view.path) c.self.view_is ∙ c.requires in
-    subst (λ (x : Standing). Rooted f Always (IsWhole f x.view) x.view (c.load-found.result % 8) (cut_to 1 c.load-found.new.seat.me.0)) c.self.view_is
+    subst (λ (t : Standing × ℕ). Rooted f Always (IsWhole f t.0.view) t.0.view t.1 (cut_to 1 c.load-found.new.seat.me.0)) (λ i. (c.self.view_is i, sym c.root_level-level.ensures i))
     (roots.rooted law.lawful_layout law.words_differ law.steps_agree c.self.invariant.3 c.self.invariant.2 none c.load-found.ensures.stepped)
+
+pub root_level-level-requires : goal.root_level-level-requires
+root_level-level-requires g c = λ fixed. roots.fixed_level g.met.F.Format.lawful_layout fixed c.self.invariant.3.holds c.load-found.ensures.stepped
