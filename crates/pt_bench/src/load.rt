@@ -1,19 +1,14 @@
-//! Loads: steps by a rule, each a map or an unmap, made one after another; then lookups of their ranges.
+//! Loads over any holder: steps by a rule, each a map or an unmap, made one after another; then lookups of their ranges.
 
 ghost use Rattle.std.specs.Prelude.{◌≤◌, IfOk};
-ghost use Rattle.pt_model.specs.Words.{frame_limit};
-ghost use Rattle.pt_walk.specs.Walks.{Rests};
+ghost use Rattle.pt_view.specs.Views.{Rests};
+ghost use Rattle.pt_bench.specs.Spans.{ComesBack, IsTallyOf};
 
 use pt_format::{Format, Prot};
 use pt_map::map;
-use pt_num::Memory;
-use pt_plain::Plain;
 use pt_sweep::unmap;
+use pt_view::Holder;
 use pt_walk::lookup;
-use std::alloc::Global;
-
-/// The frames of the space where the format has as many, all but the root's in the purse.
-const FRAMES: u32 = 8192;
 
 /// The output address from which the outputs go up.
 const OUTPUTS: u64 = 1 << 40;
@@ -35,6 +30,10 @@ pub enum Load {
     UnmapGigabytes,
     /// A page is mapped, and is taken away by the next step.
     Unmap,
+    /// A block is mapped, and is taken away by the next step.
+    UnmapBlocks,
+    /// Pages that follow each other are taken away.
+    Away,
     /// What a driver does: the three of `Driver`, and the block of them is taken away.
     Mix,
 }
@@ -122,12 +121,14 @@ fn step_at<F: Format>(load: Load, number: u32) -> Step {
     let bits = block_bits::<F>();
     match load {
         Load::Pages => map_at(number, F::GRANULE, page, 0),
+        Load::Away => taken_away(map_at(number, F::GRANULE, page, 0)),
         Load::Blocks => map_at(number, bits, 1 << bits, 0),
         Load::Sixteen => map_at(number, F::GRANULE + 4, 16 << F::GRANULE, 0),
         Load::Driver => map_at(number, bits, driver_bytes::<F>(number % 3), 0),
         Load::Gigabytes => map_at(number, 30, 1 << 30, page),
         Load::UnmapGigabytes => in_turn(number, map_at(number / 2, 30, 1 << 30, page)),
         Load::Unmap => in_turn(number, map_at(number / 2, F::GRANULE, page, 0)),
+        Load::UnmapBlocks => in_turn(number, map_at(number / 2, bits, 1 << bits, 0)),
         Load::Mix => match number % 4 {
             3 => taken_away(map_at(number - 3, bits, 1 << bits, 0)),
             place => map_at(number, bits, driver_bytes::<F>(place), 0),
@@ -135,82 +136,80 @@ fn step_at<F: Format>(load: Load, number: u32) -> Step {
     }
 }
 
+/// The same step, so many bytes on.
+fn moved_on(step: Step, base: u64) -> Step {
+    Step {
+        va: step.va.wrapping_add(base),
+        ..step
+    }
+}
+
 /// Makes a step, and answers how many were made: none where it is refused.
-fn make_step<F: Format>(plain: &mut Plain<F>, step: Step) -> u32
-    requires rest { Rests F.layout plain.old.view }
-    ensures rest { Rests F.layout plain.new.view }
+fn make_step<F: Format, H: Holder<F>>(holder: &mut H, step: Step) -> u32
+    requires rest { Rests F.layout (H.view holder.old) }
+    ensures back { ComesBack F.layout H.space H.view holder.old holder.new }
     ensures one { result ≤ 1 }
 {
     let Step { act, va, pa, len } = step;
     let made = match act {
-        Act::Map => map::<F, Plain<F>>(plain, va, pa, len, Prot::ReadWrite).is_ok(),
-        Act::Unmap => unmap::<F, Plain<F>>(plain, va, len).is_ok(),
+        Act::Map => map::<F, H>(holder, va, pa, len, Prot::ReadWrite).is_ok(),
+        Act::Unmap => unmap::<F, H>(holder, va, len).is_ok(),
     };
     u32::from(made)
 }
 
 /// Looks the first byte of a step's range up, and answers how many were found.
-fn find_one<F: Format>(plain: &mut Plain<F>, step: Step) -> u32
-    requires rest { Rests F.layout plain.old.view }
-    ensures rest { Rests F.layout plain.new.view }
+fn find_one<F: Format, H: Holder<F>>(holder: &mut H, step: Step) -> u32
+    requires rest { Rests F.layout (H.view holder.old) }
+    ensures back { ComesBack F.layout H.space H.view holder.old holder.new }
     ensures one { result ≤ 1 }
 {
-    match lookup::<F, Plain<F>>(plain, step.va) {
+    match lookup::<F, H>(holder, step.va) {
         Ok(Some(_)) => 1,
         _ => 0,
     }
 }
 
-fn make_all<F: Format>(plain: &mut Plain<F>, load: Load, count: u32) -> u32
-    requires rest { Rests F.layout plain.old.view }
-    ensures rest { Rests F.layout plain.new.view }
+fn make_all<F: Format, H: Holder<F>>(holder: &mut H, base: u64, load: Load, count: u32) -> u32
+    requires rest { Rests F.layout (H.view holder.old) }
+    ensures back { ComesBack F.layout H.space H.view holder.old holder.new }
     ensures most { result ≤ count }
 {
     let mut made = 0;
     for number in 0..count {
-        made += make_step(plain, step_at::<F>(load, number));
+        made += make_step::<F, H>(holder, moved_on(step_at::<F>(load, number), base));
     }
     made
 }
 
-fn find_all<F: Format>(plain: &mut Plain<F>, load: Load, count: u32) -> u32
-    requires rest { Rests F.layout plain.old.view }
-    ensures rest { Rests F.layout plain.new.view }
+fn find_all<F: Format, H: Holder<F>>(holder: &mut H, base: u64, load: Load, count: u32) -> u32
+    requires rest { Rests F.layout (H.view holder.old) }
+    ensures back { ComesBack F.layout H.space H.view holder.old holder.new }
     ensures most { result ≤ count }
 {
     let mut found = 0;
     for number in 0..count {
-        found += find_one(plain, step_at::<F>(load, number));
+        found += find_one::<F, H>(holder, moved_on(step_at::<F>(load, number), base));
     }
     found
 }
 
-/// The frames of a space of this format.
-fn frames_of<F: Format>() -> u32
-    ensures some { 1 ≤ result }
-    ensures few { result ≤ frame_limit F.layout }
-{
-    u32::min(FRAMES, 1 << (27 - F::GRANULE))
-}
-
-/// Makes the steps of a work in a new space, of the fewest levels of the format, and looks their ranges up where it is
-/// asked for.
-pub fn run_load<F: Format>(alloc: Global, work: Work) -> Result<Tally, Memory>
-    ensures made { IfOk result (λ tally. tally.made ≤ work.count) }
-    ensures found { IfOk result (λ tally. tally.found ≤ work.count) }
+/// Makes the steps of a work, whose ranges go up from an address, and looks these up where it is asked for.
+pub fn run_work<F: Format, H: Holder<F>>(holder: &mut H, base: u64, work: Work) -> Tally
+    requires rest { Rests F.layout (H.view holder.old) }
+    ensures back { ComesBack F.layout H.space H.view holder.old holder.new }
+    ensures most { IsTallyOf work.count result.made result.found }
 {
     let Work {
         load,
         count,
         lookups,
     } = work;
-    let frames = frames_of::<F>();
-    let mut plain = Plain::<F>::make(alloc, frames, F::START, frames - 1)?;
-    let made = make_all(&mut plain, load, count);
+    let made = make_all::<F, H>(holder, base, load, count);
     let found = if lookups {
-        find_all(&mut plain, load, count)
+        find_all::<F, H>(holder, base, load, count)
     } else {
         0
     };
-    Ok(Tally { made, found })
+    Tally { made, found }
 }
