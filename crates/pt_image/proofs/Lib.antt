@@ -16,3 +16,5 @@ mod Goodness
 mod Judging
 mod Whole
 mod ImageCases
+mod HeaderCases
+mod SavedBytes

@@ -1,4 +1,5 @@
 pub mod Bytes
+pub mod Headers
 pub mod Drafts
 pub mod Visits
 pub mod Order

@@ -8,7 +8,8 @@
 //! at rest, that holds no frame, for the header's frames and levels, whatever the image's bytes are; so a space is resumed from
 //! them (`pt_space::Space::resume`). They are answered only for a good image. Otherwise the fault that is named is the
 //! image's first: entries are visited from the root's table by index, and a pointer's table right after its entry (`specs/Order.antt`);
-//! what is wrong with an entry, and in which order, `specs/Faults.antt` says of the image's bytes alone.
+//! what is wrong with an entry, and in which order, `specs/Faults.antt` says of the image's bytes alone. `read_header` answers an
+//! image's own header, or the first fault of it (`specs/Headers.antt`), and `image_of` the image of the words of a space, byte for byte.
 #![tactic(auto)]
 
 mod block;
@@ -16,9 +17,11 @@ mod bytes;
 mod checking;
 mod fault;
 mod header;
+mod saving;
 mod table;
 mod walk;
 
 pub use checking::check;
 pub use fault::{CheckRefused, EntryFault, ImageFault};
-pub use header::Header;
+pub use header::{Header, read_header};
+pub use saving::image_of;
