@@ -22,6 +22,7 @@ class Shared(Run):
 
     def __init__(self, lines, lacking):
         self.lacking, self.inside, self.lacks, self.covered, self.within = lacking, 0, False, set(), set()
+        self.positions = {}
         super().__init__(lines)
 
     def body(self, place, low, high, runs):
@@ -57,7 +58,12 @@ class Shared(Run):
             place += 1
 
     def needed(self, place):
-        """The positions that the map at a place needs in a new space."""
+        """The positions that the map at a place needs in a new space, found once."""
+        if place not in self.positions:
+            self.positions[place] = self.found(place)
+        return self.positions[place]
+
+    def found(self, place):
         words, form = self.lines[place].split(), self.form
         if words[0] != "map":
             return set()
@@ -147,12 +153,12 @@ def main():
         lines, need = forked(seed)
         plain = run(lines, "--plain")
         outputs = [run(lines) for _ in range(times)]
-        for output in outputs + [plain]:
+        for output in {plain, *outputs}:
             fault, lacks = wrong(lines, need, output, plain)
             if fault:
                 print("\n".join(lines))
                 sys.exit(f"script {seed}: {fault}")
-            lacked += lacks
+            lacked += lacks * outputs.count(output)
         several += len(set(outputs)) > 1
     print(f"{count} scripts, {times} runs each: each output is allowed; {lacked} maps lacked frames inside forks, {several} scripts had several outputs")
 

@@ -216,7 +216,7 @@ fn copy_words(alloc: Global, closed: &Closed<(), Global>, count: usize) -> Resul
 {
     let mut words = Vec::with_capacity(alloc, count)?;
     for i in 0..count {
-        words.push(closed.word(i))?;
+        words.push_reserved(closed.word(i));
     }
     Ok(words)
 }
