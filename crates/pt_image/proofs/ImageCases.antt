@@ -18,7 +18,7 @@ use Rattle.pt_image.specs.Faults.{HasBlockAt, HasFault, HasRoot, IsGoodEntry, Is
 use Rattle.pt_image.specs.declared.fault.EntryFault.TheVariants.{Outside, Alien, Pointer, Shared, Group, Spine}
 use Rattle.pt_image.specs.declared.fault.ImageFault.TheVariants.{Root, Entry}
 
-abbrev small : Layout
+abbrev pub small : Layout
 small = record {
   granule = 4;
   index = 2;
@@ -45,17 +45,17 @@ bytes_of (suc count) number = number % 256 ∷ bytes_of count (number / 256)
 abbrev image_of : (root : ℕ) → (entries : List ℕ) → List ℕ
 image_of root entries = bytes_of 14 0 ++ bytes_of 8 root ++ flat_map (bytes_of 8) entries
 
-abbrev to : (frame : ℕ) → ℕ
+abbrev pub to : (frame : ℕ) → ℕ
 to frame = frame_address small frame + 1
 
 -- a page onto page 3, and the block of two pages onto page 4
 abbrev leaf_of_page : ℕ
 leaf_of_page = 3 * 64 + 2
 
-abbrev leaf_of_pair : ℕ
+abbrev pub leaf_of_pair : ℕ
 leaf_of_pair = 4 * 64 + 8 + 2
 
-abbrev at : (frame level base number : ℕ) → Visit
+abbrev pub at : (frame level base number : ℕ) → Visit
 at frame level base number = record { frame = frame; position = record { level = level; base = base }; number = number }
 
 -- ORDER
@@ -112,10 +112,10 @@ strange = (
 )
 
 -- a pointer to frame 1 is one to no frame of an image of one frame
-abbrev one_pointer : List ℕ
+abbrev pub one_pointer : List ℕ
 one_pointer = image_of 1 (to 1 ∷ 0 ∷ 0 ∷ 0 ∷ 0 ∷ 0 ∷ 0 ∷ 0 ∷ [])
 
-none_some : {x : ℕ} → None ≡ Some x → ⊥
+pub none_some : {x : ℕ} → None ≡ Some x → ⊥
 none_some e = cc
 
 pointing : HasFault small 1 2 one_pointer [] (at 0 1 0 0) Pointer × ¬ HasFault small 2 2 one_pointer [] (at 0 1 0 0) Pointer
@@ -152,10 +152,10 @@ sharing = (
 )
 
 -- an entry of a block is in a group only where the block has all its words: here the second word isn't there
-abbrev pair_at : (number out : ℕ) → Block
+abbrev pub pair_at : (number out : ℕ) → Block
 pair_at number out = record { first = number; log2 = 1; out = out; prot = Read }
 
-abbrev pair_in : (number : ℕ) → List ℕ
+abbrev pub pair_in : (number : ℕ) → List ℕ
 pair_in number = image_of 1 (to 1 ∷ 0 ∷ 0 ∷ 0 ∷ 0 ∷ 0 ∷ leaf_of_pair ∷ number ∷ [])
 
 two : (P : ℕ → Type 0) → P 0 → P 1 → (k : ℕ) → k < 2 → P k
@@ -163,7 +163,7 @@ two P a b zero lt = a
 two P a b (suc zero) lt = b
 two P a b (suc (suc k)) lt = absurd (omega arith)
 
-has_pair : HasBlockAt small (pair_in leaf_of_pair) 1 (record { level = 0; base = 0 }) 2 (pair_at 2 4)
+pub has_pair : HasBlockAt small (pair_in leaf_of_pair) 1 (record { level = 0; base = 0 }) 2 (pair_at 2 4)
 unfolding number_at
 has_pair = record {
   legal = record { a_size = refl; first_aligned = refl; out_aligned = refl; in_input = omega arith; in_output = omega arith };

@@ -16,5 +16,13 @@ mod Goodness
 mod Judging
 mod Whole
 mod ImageCases
+mod BookCases
 mod HeaderCases
+mod Resting
+mod Reaching
+mod RestingBlocks
+mod RestingGood
+mod RestingStrays
+mod RestingBook
+pub mod Laws
 mod SavedBytes

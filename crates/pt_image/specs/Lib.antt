@@ -4,4 +4,5 @@ pub mod Drafts
 pub mod Visits
 pub mod Order
 pub mod Faults
+pub mod Books
 pub mod Checks

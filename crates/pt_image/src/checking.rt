@@ -2,6 +2,7 @@
 
 ghost use Rattle.std.specs.Prelude.{◌≡◌, ℕ, ◌/◌, ◌%◌, ◌+◌, ◌^◌, ◌<◌, ◌≤◌, length, slice_index, IfErr, IfNone, IfOk, IfSome};
 ghost use Rattle.pt_model.specs.Words.{root_word};
+ghost use Rattle.pt_image.specs.Books.{SaysImageBook};
 ghost use Rattle.pt_image.specs.Bytes.{entry_at, root_in};
 ghost use Rattle.pt_image.specs.Checks.{AreWords, IsFirstUsed, IsHeaderOf, IsRootTable, NamesFirstUsed};
 ghost use Rattle.pt_image.specs.Drafts.{IsBegun};
@@ -89,7 +90,7 @@ fn root_table<F: Format>(header: &Header, image: &[u8]) -> Option<Table>
 }
 
 /// The words of an image of this format, with the tags of its tables, where it is found good: the root and the entries are the
-/// image's, and the words are sound, so that a space may be resumed from them. Otherwise the first thing that is wrong with it:
+/// image's, the words are sound, so that a space may be resumed from them, and the book that they say is the image's. Otherwise the first thing that is wrong with it:
 /// the root, else the first bad entry in the order of visits, else the lowest entry that isn't zero of the lowest frame to which
 /// nothing points; or `Memory` where there is none for the words. The header is the image's own, and the image has exactly the
 /// bytes that it says.
@@ -102,6 +103,7 @@ pub fn check<F: Format>(
     ensures sound { IfOk result (λ s. (s.frames ≡ header.now.frames) × (s.levels ≡ header.now.levels)) }
     ensures image { IfOk result (λ s. HasImage F.layout header.now.frames image.now s.words) }
     ensures good { IfOk result (λ _. IsGoodImage F.layout header.now.frames header.now.levels image.now) }
+    ensures book { IfOk result (λ s. SaysImageBook F.layout header.now.frames header.now.levels image.now s.words) }
     ensures refused { IfErr result (IsRefusal F.layout header.now.frames header.now.levels image.now) }
 {
     let Some(table) = root_table::<F>(header, image) else {

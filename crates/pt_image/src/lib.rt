@@ -15,6 +15,7 @@
 mod block;
 mod bytes;
 mod checking;
+mod closed;
 mod fault;
 mod header;
 mod saving;
@@ -22,6 +23,7 @@ mod table;
 mod walk;
 
 pub use checking::check;
+pub use closed::resting_words_make_a_good_image;
 pub use fault::{CheckRefused, EntryFault, ImageFault};
 pub use header::{Header, read_header};
 pub use saving::image_of;

@@ -8,6 +8,7 @@ use Rattle.pt_image.specs.Bytes.{root_in}
 use Rattle.pt_image.specs.Checks.{NamesFirstUsed, position_of}
 use Rattle.pt_image.specs.Drafts.{HasSpine, IsBegun, Reaches, Stands}
 use Rattle.pt_image.specs.Visits.{HasImage, HasNoStray}
+use Rattle.pt_image.proofs.Laws.{resting_book_is_images}
 use Rattle.pt_image.proofs.Sounds.{draft_is_sound}
 use Rattle.pt_image.proofs.Starts.{starts}
 use Rattle.pt_image.proofs.Visiting.{root_back, visited_has}
@@ -64,6 +65,12 @@ returns-clause-image g c =
     let words_are : c.of.result.words ≡ c.visit.new.words = ap (λ (s : SavedWords). s.words) c.of.ensures ∙ kept in
     subst (HasImage f n image) (sym words_are)
     (visited_has f n (top + 1) table.frame image c.deref_mut.result.now c.visit.new.words begun root.a_frame root_is c.in_default-visit.ensures.visits no_stray)
+
+pub returns-clause-book : goal.returns-clause-book
+returns-clause-book g c =
+    let law = g.met.F.Format in
+    resting_book_is_images g.F.Format.layout law.lawful_layout law.words_differ law.steps_agree c.args.header.now.frames c.args.header.now.levels c.args.image.now c.of.result.words
+    (returns-clause-image g c)
 
 pub returns-clause-good : goal.returns-clause-good
 returns-clause-good g c =
