@@ -90,10 +90,10 @@ fn root_table<F: Format>(header: &Header, image: &[u8]) -> Option<Table>
 }
 
 /// The words of an image of this format, with the tags of its tables, where it is found good: the root and the entries are the
-/// image's, the words are sound, so that a space may be resumed from them, and the book that they say is the image's. Otherwise the first thing that is wrong with it:
-/// the root, else the first bad entry in the order of visits, else the lowest entry that isn't zero of the lowest frame to which
-/// nothing points; or `Memory` where there is none for the words. The header is the image's own, and the image has exactly the
-/// bytes that it says.
+/// image's, the words are sound, so that a space may be resumed from them, and the book that they say is the image's. Otherwise
+/// the first thing that is wrong with it: the root, else the first bad entry in the order of visits, else the lowest entry that
+/// isn't zero of the lowest frame to which nothing points; or `Memory` where there is none for the words. The header is the
+/// image's own, and the image has exactly the bytes that it says.
 pub fn check<F: Format>(
     alloc: Global,
     header: &Header,

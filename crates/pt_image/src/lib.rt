@@ -6,10 +6,12 @@
 //!
 //! Promised: the words that it answers have the image's root and entries, and meet the rule with one view of the whole space,
 //! at rest, that holds no frame, for the header's frames and levels, whatever the image's bytes are; so a space is resumed from
-//! them (`pt_space::Space::resume`). They are answered only for a good image. Otherwise the fault that is named is the
-//! image's first: entries are visited from the root's table by index, and a pointer's table right after its entry (`specs/Order.antt`);
+//! them (`pt_space::Space::resume`), and its book is the image's (`specs/Books.antt`). They are answered only for a good image,
+//! and the image of a closed space is one (`resting_words_make_a_good_image`). Otherwise the fault that is named is the image's
+//! first: entries are visited from the root's table by index, and a pointer's table right after its entry (`specs/Order.antt`);
 //! what is wrong with an entry, and in which order, `specs/Faults.antt` says of the image's bytes alone. `read_header` answers an
-//! image's own header, or the first fault of it (`specs/Headers.antt`), and `image_of` the image of the words of a space, byte for byte.
+//! image's own header, or the first fault of it (`specs/Headers.antt`), and `image_of` the image of the words of a space, byte
+//! for byte.
 #![tactic(auto)]
 
 mod block;
