@@ -10,6 +10,8 @@ pub mod calls;
 #[cfg(test)]
 mod leased;
 #[cfg(test)]
+mod loads;
+#[cfg(test)]
 mod mapped;
 pub mod owned;
 pub mod pair;
