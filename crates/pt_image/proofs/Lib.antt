@@ -25,4 +25,4 @@ mod RestingGood
 mod RestingStrays
 mod RestingBook
 pub mod Laws
-mod SavedBytes
+pub mod SavedBytes

@@ -47,11 +47,11 @@ module _ (f : Layout) (number levels n : ℕ) (words : List ℕ) (long : length 
   pub image_has : HasImage f n (image_bytes number levels n words) words
   image_has = record { root = root_is; entries = λ frame lt i small. sym (entry_is frame i lt small) }
 
-  pub image_long : length (image_bytes number levels n words) ≡ image_length f n
-  image_long =
-      let bytes = bytes_long (drop (1 + n) words) in
-      let rest = length-drop (1 + n) words in
-      let same = length-append (head_bytes number levels n (slice_index words 0)) (flat_map (little_bytes 8) (drop (1 + n) words)) in omega arith
+pub image_long : (f : Layout) (number levels n : ℕ) (words : List ℕ) → length words ≡ word_count f n → length (image_bytes number levels n words) ≡ image_length f n
+image_long f number levels n words long =
+    let bytes = bytes_long (drop (1 + n) words) in
+    let rest = length-drop (1 + n) words in
+    let same = length-append (head_bytes number levels n (slice_index words 0)) (flat_map (little_bytes 8) (drop (1 + n) words)) in omega arith
 
 -- the fields of the header read back
 pub image_fields : (number levels n : ℕ) (words : List ℕ) (name : Name) → n < 2 ^ 32 → name_at number ≡ Some name → AreLevels (layout_of name) levels → AreFrames (layout_of name) n →
