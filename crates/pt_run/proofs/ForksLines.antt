@@ -14,7 +14,7 @@ use Rattle.pt_model.specs.Book as book
 use Rattle.pt_model.specs.Book.{Book, MapRefusal, map_refusal, span_end}
 use Rattle.pt_model.specs.Cuts.{cut_refusal, spanning}
 use Rattle.pt_model.specs.Pages.{page_under}
-use Rattle.pt_model.specs.Run.{Machine, Opened, Refused, Cut, State, Decided, InForks, answer_of, at_end, at_fork, at_start, at_with, behind, behind_what, book_after, is_frames, is_in_fork, is_lacking, is_running, lacked_lines, lacks, lacks_frames, map_answer, new_start, refused_answer, replies_from, reply_before, state_after}
+use Rattle.pt_model.specs.Run.{Machine, Opened, Refused, Cut, State, Decided, InForks, answer_of, at_end, at_fork, at_start, at_with, behind, behind_what, book_after, is_frames, is_in_fork, is_lacking, is_running, lacked_lines, lacks, lacks_frames, map_answer, refused_answer, replies_from, reply_before, state_after}
 use Rattle.pt_laws.specs.Apart.{AreClosed, depth_behind, may_stand}
 use Rattle.pt_laws.specs.Covers.{LackOnly, Stand, Wants}
 use Rattle.pt_laws.specs.Lines.{CommandsRise, LinesFrom}
@@ -290,18 +290,18 @@ module _ (m : Machine) (lines : ℕ → Bool) where
   on_line line With s i e = absurd (none_shown (is_running s.forks) e)
   on_line line End s i e = absurd (none_shown (is_running s.forks) e)
 
-  in_set : (body : List Command) → CommandsRise body → (line : ℕ) → IsForksLine m body lines line → lines line ≡ true
-  in_set body rise line f =
-      let e = subst (λ (n : ℕ). Lacked (replies_from m (InForks lines) (new_start m) body) n) (sym f.line_is) f.printed in
-      let shown = own_answer m (InForks lines) f.before f.rest f.here (new_start m) (subst (λ (cs : List Command). CommandsRise cs) f.whole rise)
-      (subst (λ (cs : List Command). Lacked (replies_from m (InForks lines) (new_start m) cs) f.here.line) f.whole e) in
-      subst (λ (n : ℕ). lines n ≡ true) f.line_is (on_line f.here.line f.here.what (state_after m (InForks lines) (new_start m) f.before) f.inside shown)
+  in_set : (start : State) (body : List Command) → CommandsRise body → (line : ℕ) → IsForksLine m start body lines line → lines line ≡ true
+  in_set start body rise line f =
+      let e = subst (λ (n : ℕ). Lacked (replies_from m (InForks lines) start body) n) (sym f.line_is) f.printed in
+      let shown = own_answer m (InForks lines) f.before f.rest f.here start (subst (λ (cs : List Command). CommandsRise cs) f.whole rise)
+      (subst (λ (cs : List Command). Lacked (replies_from m (InForks lines) start cs) f.here.line) f.whole e) in
+      subst (λ (n : ℕ). lines n ≡ true) f.line_is (on_line f.here.line f.here.what (state_after m (InForks lines) start f.before) f.inside shown)
 
 -- the lines that a whole run lacks inside forks are those that its replies show there
 pub are_forks_lines : (m : Machine) (body : List Command) (s s' : Stand) (replies inside : List Reply) → CommandsRise body →
-    at_start s.book ≡ new_start m → RunsWhole m (InForks (lacked_lines inside)) body s s' replies inside →
-    replies ≡ replies_from m (InForks (lacked_lines inside)) (at_start s.book) body → AreForksLines m body (lacked_lines inside)
-are_forks_lines m body s s' replies inside rise start run are = record {
+    RunsWhole m (InForks (lacked_lines inside)) body s s' replies inside →
+    replies ≡ replies_from m (InForks (lacked_lines inside)) (at_start s.book) body → AreForksLines m (at_start s.book) body (lacked_lines inside)
+are_forks_lines m body s s' replies inside rise run are = record {
   each = λ line e.
       let i = lacked_is (IsInside m (InForks (lacked_lines inside)) (at_start s.book) body) inside line (places m (InForks (lacked_lines inside)) body s s' replies inside run) e in
       record {
@@ -310,9 +310,9 @@ are_forks_lines m body s s' replies inside rise start run are = record {
         rest = i.rest;
         whole = i.whole;
         line_is = i.line_is;
-        inside = ap (λ (t : State). is_in_fork (state_after m (InForks (lacked_lines inside)) t i.before).forks) (sym start) ∙ i.inside;
-        printed = ap (λ (rs : List Reply). lacked_lines rs line) (ap (λ (t : State). replies_from m (InForks (lacked_lines inside)) t body) (sym start) ∙ sym are)
+        inside = i.inside;
+        printed = ap (λ (rs : List Reply). lacked_lines rs line) (sym are)
             ∙ among m (InForks (lacked_lines inside)) body s s' replies inside run line e;
       };
-  all = in_set m (lacked_lines inside) body rise;
+  all = in_set m (lacked_lines inside) (at_start s.book) body rise;
 }

@@ -4,7 +4,7 @@ mod AskFacts
 mod ForksLines
 -- The run of a body on a new space, and what is asked behind it.
 mod RunFacts
--- The same on a new shared space.
+-- The same on a shared space, new or of saved words.
 mod SharedFacts
 -- Where the run on a shared space is that over one owner.
 mod PlainFacts

@@ -17,7 +17,9 @@ use Rattle.pt_reply.specs.Telling.{IsTellable}
 use Rattle.pt_reply.proofs.RestBlocks.{blocks_are}
 use Rattle.pt_forks.specs.Running.{AreTold}
 use Rattle.pt_narrow.specs.Standing.{HasRunOver}
-use Rattle.pt_run.specs.Scripted.{Closes}
+use Rattle.pt_names.specs.Names.{layout_of}
+use Rattle.pt_script.specs.declared.whole.Script.{Script}
+use Rattle.pt_run.specs.Scripted.{Closes, EndsOfOne, IsLastOfOne, IsRunOfOne}
 
 -- Each reply has a text: where those of two lists have, and to what is asked.
 
@@ -54,21 +56,40 @@ module _ (f : Layout) (n l hold : ℕ) (o : Owned) (opened : IsOpened f n l hold
   last_is : book_in p.view ≡ last_book (machine f l n) ByAccount commands
   last_is = ran.book ∙ (λ i. (state_after (machine_is i) ByAccount (at_start (book_is i)) commands).book)
 
-  module _ (words : List ℕ) (closes : Closes (machine_in f p.view) (book_in p.view) words) where
-    abbrev closes_so : Closes (machine f l n) (book_in p.view) words
-    closes_so = subst (λ (m : Machine). Closes m (book_in p.view) words) (ran.machine ∙ machine_is) closes
+  -- so a body leaves the words and the replies of its run
+  pub ends_of_one : (words : List ℕ) → Closes (machine_in f p.view) (book_in p.view) words → EndsOfOne (machine f l n) commands words replies
+  ends_of_one words closing = record {
+    closes = subst (λ (m : Machine). Closes m (last_book (machine f l n) ByAccount commands) words) (ran.machine ∙ machine_is)
+        (subst (λ (b : Book). Closes (machine_in f p.view) b words) last_is closing);
+    are = replies_are;
+    told = ran.tellable;
+  }
 
-    -- the replies to the body and to what is asked are those of a script's run
-    pub run_is : (asks : List Ask) (all : List Reply) →
-        ((c : IsClosed f n words) → all ≡ replies ++ ask_replies (machine f c.levels n) (book_of c.view c.blocks) asks) →
-        all ≡ run_by (machine f l n) ByAccount commands asks
-    run_is asks all e =
-        e closes_so.closed
-        ∙ (λ i. replies_are i ++ ask_replies (machine f (closes_so.levels i) n) ((closes_so.book_is ∙ last_is) i) asks)
+-- What is asked of the words of a closed space is answered by its book, behind other replies.
+module _ (f : Layout) (n l : ℕ) (book : Book) (words : List ℕ) (closing : Closes (machine f l n) book words) (replies : List Reply) (asks : List Ask)
+    (all : List Reply) (asked : (c : IsClosed f n words) → all ≡ replies ++ ask_replies (machine f c.levels n) (book_of c.view c.blocks) asks) where
+  pub asked_of_book : all ≡ replies ++ ask_replies (machine f l n) book asks
+  asked_of_book = asked closing.closed ∙ (λ i. replies ++ ask_replies (machine f (closing.levels i) n) (closing.book_is i) asks)
 
-    pub all_told : (asks : List Ask) (all : List Reply) →
-        ((c : IsClosed f n words) → all ≡ replies ++ ask_replies (machine f c.levels n) (book_of c.view c.blocks) asks) →
-        AreTold (IsTellable f) all
-    all_told asks all e =
-        subst (AreTold (IsTellable f)) (sym (e closes_so.closed))
-        (told_both f replies _ ran.tellable (told_asks f (machine f closes_so.closed.levels n) (book_of closes_so.closed.view closes_so.closed.blocks) asks))
+  pub all_told : AreTold (IsTellable f) replies → AreTold (IsTellable f) all
+  all_told told = subst (AreTold (IsTellable f)) (sym asked_of_book) (told_both f replies _ told (told_asks f (machine f l n) book asks))
+
+-- the run of a script over one owner, by what its body leaves and what is asked behind it
+pub run_of_one : (s : Script) (f : Layout) (words : List ℕ) (replies : List Reply) (asks : List Ask) (all : List Reply) → layout_of s.format ≡ f → asks ≡ s.tail →
+    EndsOfOne (machine f s.levels s.frames) s.body words replies →
+    ((c : IsClosed f s.frames words) → all ≡ replies ++ ask_replies (machine f c.levels s.frames) (book_of c.view c.blocks) asks) →
+    IsRunOfOne s all
+run_of_one s f words replies asks all name tails ends asked =
+    let book = last_book (machine f s.levels s.frames) ByAccount s.body in
+    let are = asked_of_book f s.frames s.levels book words ends.closes replies asks all asked
+    ∙ (λ i. ends.are i ++ ask_replies (machine f s.levels s.frames) book asks) in
+    record {
+      are = are ∙ (λ i. run_by (machine (sym name i) s.levels s.frames) ByAccount s.body (tails i));
+      told = subst (λ (h : Layout). AreTold (IsTellable h) all) (sym name) (all_told f s.frames s.levels book words ends.closes replies asks all asked ends.told);
+    }
+
+-- the words that a script's body leaves are those with the last book of the script's run
+pub last_of_one : (s : Script) (f : Layout) (words : List ℕ) (replies : List Reply) → layout_of s.format ≡ f → EndsOfOne (machine f s.levels s.frames) s.body words replies →
+    IsLastOfOne s words
+last_of_one s f words replies name ends =
+    subst (λ (h : Layout). Closes (machine h s.levels s.frames) (last_book (machine h s.levels s.frames) ByAccount s.body) words) (sym name) ends.closes

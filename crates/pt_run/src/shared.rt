@@ -1,16 +1,17 @@
-//! The run of a script on a shared space.
+//! The run of a script on a shared space, new or resumed.
 
 ghost use Rattle.std.specs.Prelude.{◌≡◌, ◌<◌, ◌≤◌, IfOk, IsTrue};
 ghost use Rattle.pt_model.specs.Layout.{input_pages};
 ghost use Rattle.pt_model.specs.Words.{frame_limit};
 ghost use Rattle.pt_names.specs.Names.{layout_of};
+ghost use Rattle.pt_reply.specs.Built.{machine};
 ghost use Rattle.pt_reply.specs.Running.{IsReady, book_in, machine_in};
 ghost use Rattle.pt_reply.specs.Telling.{has_small_blocks, IsTellable};
 ghost use Rattle.pt_beside.specs.Places.{StaysIn};
 ghost use Rattle.pt_beside.specs.Running.{IsBodyOf, IsRun};
 ghost use Rattle.pt_shared.specs.Parts.{place_of};
 ghost use Rattle.pt_run.specs.Scripted.{Closes};
-ghost use Rattle.pt_run.specs.Shared.{IsRunShared};
+ghost use Rattle.pt_run.specs.Shared.{IsRunFrom, IsRunShared, saved_book};
 
 use crate::asks::answer_asks;
 use crate::replies::Replies;
@@ -24,7 +25,7 @@ use pt_model::{Command, Name};
 use pt_num::Memory;
 use pt_script::Script;
 use pt_shared::{Gate, run_over};
-use pt_space::{Lease, Pass, Space};
+use pt_space::{Lease, Pass, Sound, Space};
 use std::alloc::Global;
 use std::thread::Threads;
 
@@ -63,23 +64,23 @@ fn close<F: Format>(space: Space<F>, whole: Pass<F>) -> Result<Vec<u64>, Memory>
     space.close(whole)
 }
 
-/// Runs a script of this format on a new shared space, and answers what is asked of its words behind the body. The space is
-/// closed whether the body has replies or not.
-fn share_in<F: Format + Send + Sync, R: Threads + Sync, G: Gate + Sync>(
+/// Runs a script of this format on the whole of a shared space, and answers what is asked of its words behind the body. The
+/// space is closed whether the body has replies or not.
+fn run_whole<F: Format + Send + Sync, R: Threads + Sync, G: Gate + Sync>(
     rt: &R,
     alloc: Global,
     script: &Script,
+    space: Space<F>,
+    pass: Pass<F>,
     gate: &G,
 ) -> Result<Replies, Memory>
     requires name { layout_of script.now.format ≡ F.layout }
-    requires small { IsTrue (has_small_blocks F.layout) }
-    requires low { F.layout.start ≤ script.now.levels }
-    requires high { script.now.levels ≤ F.layout.levels }
-    requires few { script.now.frames ≤ frame_limit F.layout }
-    requires hold { script.now.hold < script.now.frames }
-    ensures { IfOk result (IsRunShared script.now) }
+    requires of_space { pass.space ≡ space }
+    requires machine { machine_in F.layout pass.view ≡ machine F.layout script.now.levels script.now.frames }
+    requires all { pass.view.count ≡ input_pages F.layout }
+    requires ready { IsReady F.layout pass.view }
+    ensures { IfOk result (IsRunFrom script.now (book_in pass.view)) }
 {
-    let (space, pass) = Space::<F>::make(alloc, script.frames, script.levels, script.hold)?;
     let (lease, ran) = run_on(rt, alloc, space.lease(pass), script.body.commands(), gate);
     let whole = lease.pass();
     let words = close::<F>(space, whole);
@@ -93,6 +94,24 @@ fn share_in<F: Format + Send + Sync, R: Threads + Sync, G: Gate + Sync>(
         &mut replies.replies,
     )?;
     Ok(replies)
+}
+
+/// Runs a script of this format on a new shared space.
+fn share_in<F: Format + Send + Sync, R: Threads + Sync, G: Gate + Sync>(
+    rt: &R,
+    alloc: Global,
+    script: &Script,
+    gate: &G,
+) -> Result<Replies, Memory>
+    requires name { layout_of script.now.format ≡ F.layout }
+    requires low { F.layout.start ≤ script.now.levels }
+    requires high { script.now.levels ≤ F.layout.levels }
+    requires few { script.now.frames ≤ frame_limit F.layout }
+    requires hold { script.now.hold < script.now.frames }
+    ensures { IfOk result (IsRunShared script.now) }
+{
+    let (space, pass) = Space::<F>::make(alloc, script.frames, script.levels, script.hold)?;
+    run_whole(rt, alloc, script, space, pass, gate)
 }
 
 /// Runs a script on a new shared space, the branches of each fork beside each other: as the two closures of the runtime's
@@ -120,4 +139,23 @@ pub fn run_shared<R: Threads + Sync, G: Gate + Sync>(
         Name::Sv48 => share_in::<RiscV<4>, R, G>(rt, alloc, script, gate),
         Name::Sv57 => share_in::<RiscV<5>, R, G>(rt, alloc, script, gate),
     }
+}
+
+/// Runs a script as `run_shared` does, on the space of sound words in place of a new one: they are of the script's format, levels
+/// and frames, and the script holds no frame. On `Memory` the words are given up.
+pub fn run_from<F: Format + Send + Sync, R: Threads + Sync, G: Gate + Sync>(
+    rt: &R,
+    alloc: Global,
+    script: &Script,
+    sound: Sound<F>,
+    gate: &G,
+) -> Result<Replies, Memory>
+    requires name { layout_of script.now.format ≡ F.layout }
+    requires levels { sound.levels ≡ script.now.levels }
+    requires frames { sound.frames ≡ script.now.frames }
+    requires hold { script.now.hold ≡ 0 }
+    ensures { IfOk result (IsRunFrom script.now (saved_book F.layout sound)) }
+{
+    let (space, pass) = Space::resume(alloc, sound)?;
+    run_whole(rt, alloc, script, space, pass, gate)
 }
