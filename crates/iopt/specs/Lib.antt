@@ -1,4 +1,5 @@
 pub mod Ends
 pub mod Words
 pub mod Runs
+pub mod Resumed
 pub mod Top

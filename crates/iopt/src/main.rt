@@ -1,5 +1,6 @@
 //! The program `iopt`: it reads a script of commands on page tables from standard input, runs it, and
-//! writes the replies to standard output; or it makes a script of its own from a number, and writes a summary.
+//! writes the replies to standard output, or the image of the space that it leaves; it resumes a script on the space of an image
+//! that nobody vouches for; or it makes a script of its own from a number, and writes a summary.
 //!
 //! It stands on the script language, on the devices, on the run of a script and on made scripts. The top call
 //! `run` does all that the program does, over any source and sink; it promises that at `Done` the whole input
@@ -25,7 +26,11 @@ mod dump_tests;
 mod fork_tests;
 #[cfg(test)]
 mod gate_tests;
+#[cfg(test)]
+mod image_tests;
+mod resuming;
 mod running;
+mod saving;
 #[cfg(test)]
 mod script_tests;
 #[cfg(test)]

@@ -1,8 +1,9 @@
 //! How a run of the program ends.
 
 ghost use Rattle.std.specs.Prelude.{◌≡◌, IfOk};
-ghost use Rattle.iopt.specs.Ends.{exit_code, reason_text, status_line};
+ghost use Rattle.iopt.specs.Ends.{exit_code, fault_text, reason_text, status_line};
 
+use pt_image::ImageFault;
 use pt_num::Memory;
 use pt_script::Reason;
 use pt_stream::push_dec;
@@ -25,6 +26,10 @@ pub enum Status {
     WriteFault,
     /// No memory was found.
     Memory,
+    /// The image isn't good.
+    Image { fault: ImageFault },
+    /// The script's header isn't the image's from this line on.
+    Differs { line: u32 },
 }
 
 impl Status {
@@ -35,7 +40,10 @@ impl Status {
         match self {
             Status::Done => 0,
             Status::Usage => 2,
-            Status::Refused { .. } | Status::TooLong => 3,
+            Status::Refused { .. }
+            | Status::TooLong
+            | Status::Image { .. }
+            | Status::Differs { .. } => 3,
             Status::ReadFault => 4,
             Status::WriteFault => 5,
             Status::Memory => 6,
@@ -53,6 +61,18 @@ fn reason_text(reason: Reason) -> &'static [u8]
         Reason::Argument => b"argument",
         Reason::Limit => b"limit",
         Reason::After => b"after",
+    }
+}
+
+fn fault_text(fault: &ImageFault) -> &'static [u8]
+    ensures { result.now ≡ fault_text fault.now }
+{
+    match fault {
+        ImageFault::Truncated { .. } => b"truncated",
+        ImageFault::Header { .. } => b"header",
+        ImageFault::Root => b"root",
+        ImageFault::Entry { .. } => b"entry",
+        ImageFault::Stray { .. } => b"stray",
     }
 }
 
@@ -74,6 +94,14 @@ pub fn status_text(alloc: Global, status: &Status) -> Result<Vec<u8>, Memory>
         Status::ReadFault => out.extend_from_slice(b"read fault")?,
         Status::WriteFault => out.extend_from_slice(b"write fault")?,
         Status::Memory => out.extend_from_slice(b"out of memory")?,
+        Status::Image { fault } => {
+            out.extend_from_slice(b"bad image: ")?;
+            out.extend_from_slice(fault_text(fault))?;
+        }
+        Status::Differs { line } => {
+            out.extend_from_slice(b"script differs at line ")?;
+            push_dec(&mut out, u64::from(*line))?;
+        }
     }
     Ok(out)
 }

@@ -8,22 +8,26 @@ use pt_stream::read_dec;
 use std::alloc::Global;
 use std::marker::Model;
 
-/// How the branches of a fork run.
+/// What is put for a script.
 #[derive(Clone, Copy, Debug, PartialEq, Eq)]
-pub enum Branches {
-    /// Beside each other, on leases of a shared space.
+pub enum Product {
+    /// The replies, the branches of its forks beside each other, on leases of a shared space.
     Beside,
-    /// One after the other, over one owner.
+    /// The replies, the branches one after the other, over one owner.
     InTurn,
+    /// The image of the space that it leaves, over one owner.
+    Image,
 }
 
 /// What a command line asks for.
 #[derive(Clone, Copy, Debug, PartialEq, Eq)]
 pub enum Task {
-    /// To run the input, a script.
-    Run { branches: Branches },
+    /// To read a script, and to put this for it.
+    Run { product: Product },
     /// To make the script of a number, and to run it.
     Make { number: u64 },
+    /// To read an image and a script behind it, and to run the script on the image's space.
+    Resume,
 }
 
 /// The words of a command line, seen as a list of words, each a list of bytes.
@@ -80,11 +84,18 @@ impl Words {
 fn task_of_one(word: &str) -> Option<Task>
     ensures { AskFor (word.now ∷ []) result }
 {
-    if word != "run" {
-        return None;
+    if word == "run" {
+        let product = Product::Beside;
+        return Some(Task::Run { product });
     }
-    let branches = Branches::Beside;
-    Some(Task::Run { branches })
+    if word == "save" {
+        let product = Product::Image;
+        return Some(Task::Run { product });
+    }
+    if word == "resume" {
+        return Some(Task::Resume);
+    }
+    None
 }
 
 /// What two words ask for.
@@ -92,8 +103,8 @@ fn task_of_two(first: &str, second: &str) -> Option<Task>
     ensures { AskFor (first.now ∷ second.now ∷ []) result }
 {
     if first == "run" && second == "--plain" {
-        let branches = Branches::InTurn;
-        return Some(Task::Run { branches });
+        let product = Product::InTurn;
+        return Some(Task::Run { product });
     }
     if first != "make" {
         return None;
