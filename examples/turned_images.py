@@ -18,6 +18,7 @@ import sys
 
 PROGRAM = os.path.join(os.path.dirname(os.path.abspath(__file__)), "../crates/iopt/out/iopt")
 MARK = b"IOPTIMG1"
+FRAMES = 2**32  # the address of frame 0
 
 
 class Form:
@@ -171,7 +172,7 @@ class Image:
     def pointed(self, level, word):
         if level:
             for frame in range(self.frames):
-                if self.form.pointer(level, frame << self.form.granule) == word:
+                if self.form.pointer(level, FRAMES + (frame << self.form.granule)) == word:
                     return frame
         return None
 
